@@ -1,0 +1,5 @@
+use Rattle.std.proofs.Common.{◌≢◌, take, AllPairs}
+use Rattle.plum_base.proofs.sites.are_names_distinct.Given as goal
+
+abbrev pub invariant-loop-i : goal.invariant-loop-i
+invariant-loop-i l = AllPairs (λ a b. a.name ≢ b.name) (take l.i l.targets)

@@ -1,0 +1,50 @@
+-- The threshold table (the project's own; the tenths it cuts are those of the JMA scale).
+use Rattle.std.specs.Prelude.{◌≡◌, ◌≢◌, ℕ, ◌-◌, ◌*◌, ◌^◌, ◌<◌, ◌≤◌, pos, neg_ℤ, ◌≤ℤ◌, List, [], length, slice_index}
+use Rattle.plum_base.specs.declared.numbers.Tenths.{Tenths}
+use Rattle.plum_base.specs.declared.levels.LevelFault.{LevelFault}
+use Rattle.plum_base.specs.declared.levels.LevelFault.TheVariants as faults
+
+-- squared amplitudes, and the tenth at which level 0 stands
+pub record Table : Type 0 where
+  pub thresholds : List ℕ
+  pub base : Tenths
+
+-- three components of 2^30
+abbrev pub greatest_amplitude : ℕ
+greatest_amplitude = 3 * 2 ^ 60
+
+-- site factors and the base: -100 to 100 tenths
+abbrev pub IsFactor : Tenths → Type 0
+IsFactor t = (neg_ℤ (pos 100) ≤ℤ t.0) × (t.0 ≤ℤ pos 100)
+
+abbrev pub StartsAtZero : List ℕ → Type 0
+StartsAtZero ts = (0 < length ts) × (slice_index ts 0 ≡ 0)
+
+-- each of the first n entries is greater than its predecessor
+abbrev pub RisesUpTo : List ℕ → ℕ → Type 0
+RisesUpTo ts n = (i : ℕ) → 0 < i → i < n → slice_index ts (i - 1) < slice_index ts i
+
+-- none of the first n entries is above what three components can give
+abbrev pub IsWithinUpTo : List ℕ → ℕ → Type 0
+IsWithinUpTo ts n = (i : ℕ) → i < n → slice_index ts i ≤ greatest_amplitude
+
+pub record IsLevelTable (t : Table) : Type 0 where
+  pub few : length t.thresholds ≤ 128
+  pub start : StartsAtZero t.thresholds
+  pub rises : RisesUpTo t.thresholds (length t.thresholds)
+  pub within : IsWithinUpTo t.thresholds (length t.thresholds)
+  pub base : IsFactor t.base
+
+-- the first broken rule, where the rules stand in the order of the variants
+abbrev pub IsFirstLevelFault : Table → LevelFault → Type 0
+IsFirstLevelFault t faults.Empty = t.thresholds ≡ []
+IsFirstLevelFault t faults.First = (0 < length t.thresholds) × (slice_index t.thresholds 0 ≢ 0)
+IsFirstLevelFault t (faults.Order i) =
+    StartsAtZero t.thresholds × RisesUpTo t.thresholds i
+    × (0 < i) × (i < length t.thresholds) × (slice_index t.thresholds i ≤ slice_index t.thresholds (i - 1))
+IsFirstLevelFault t (faults.Above i) =
+    StartsAtZero t.thresholds × RisesUpTo t.thresholds (length t.thresholds) × IsWithinUpTo t.thresholds i
+    × (i < length t.thresholds) × (greatest_amplitude < slice_index t.thresholds i)
+IsFirstLevelFault t faults.Base =
+    StartsAtZero t.thresholds × RisesUpTo t.thresholds (length t.thresholds)
+    × IsWithinUpTo t.thresholds (length t.thresholds) × (¬ IsFactor t.base)

@@ -1,0 +1,5 @@
+pub mod Name
+pub mod Cascade
+pub mod Levels
+pub mod Setup
+pub mod Sites

@@ -1,0 +1,40 @@
+-- What a list of stations and a list of targets must keep (the project's own limits).
+use Rattle.std.specs.Prelude.{◌≡◌, ◌≢◌, ℕ, not, ◌≤◌, pos, ◌≤ℤ◌, List, [], ◌∷◌, length, map, filter, slice_get, nat_eq, All, AllPairs, IsSomeAnd}
+use Rattle.std.specs.Cmp.Lexicographic.{pointwise}
+use Rattle.plum_base.specs.declared.numbers.Point.{Point}
+use Rattle.plum_base.specs.declared.sites.StationSite.{StationSite}
+use Rattle.plum_base.specs.declared.sites.TargetSite.{TargetSite}
+use Rattle.plum_base.specs.Levels.{IsFactor}
+
+-- both lists, in file order
+pub record Lists : Type 0 where
+  pub stations : List StationSite
+  pub targets : List TargetSite
+
+-- on the grid: 0 to 4,194,303 metres each way
+abbrev pub IsPlace : Point → Type 0
+IsPlace p = (pos 0 ≤ℤ p.x) × (p.x ≤ℤ pos 4194303) × (pos 0 ≤ℤ p.y) × (p.y ≤ℤ pos 4194303)
+
+-- each member once, where it stands first
+abbrev pub first_appearances : List (List ℕ) → List (List ℕ)
+first_appearances [] = []
+first_appearances (x ∷ xs) = x ∷ filter (λ y. not (pointwise nat_eq x y)) (first_appearances xs)
+
+-- the areas of the targets, in the order of first appearance
+abbrev pub areas_of : List TargetSite → List (List ℕ)
+areas_of targets = first_appearances (map (λ t. t.area) targets)
+
+pub record AreLawful (stations : List StationSite) (targets : List TargetSite) : Type 0 where
+  pub few_stations : length stations ≤ 4096
+  pub few_targets : length targets ≤ 8192
+  pub few_areas : length (areas_of targets) ≤ 64
+  pub station_places : All (λ s. IsPlace s.at) stations
+  pub station_factors : All (λ s. IsFactor s.factor) stations
+  pub target_places : All (λ t. IsPlace t.at) targets
+  pub target_factors : All (λ t. IsFactor t.factor) targets
+  pub codes : AllPairs (λ a b. a.code ≢ b.code) stations
+  pub names : AllPairs (λ a b. a.name ≢ b.name) targets
+
+-- the n-th station, from 0, has this code
+abbrev pub HasCode : List StationSite → ℕ → ℕ → Type 0
+HasCode stations n code = IsSomeAnd (slice_get stations n) (λ s. s.code ≡ code)

@@ -1,0 +1,32 @@
+//! The types that every layer shares. Each keeps its ranges, so that no layer tests them again.
+#![tactic(auto)]
+
+mod answers;
+mod bytes;
+mod cascade;
+mod entry;
+mod levels;
+mod memory;
+mod name;
+mod numbers;
+mod packet;
+mod rules;
+mod setup;
+mod sites;
+#[cfg(test)]
+mod tests;
+mod wave;
+
+pub use answers::{Answers, Reading};
+pub use bytes::Bytes;
+pub use cascade::{Cascade, CascadeFault, Rounding, Stage};
+pub use entry::Entry;
+pub use levels::{LevelFault, Levels};
+pub use memory::{NoMemory, Shut};
+pub use name::Name;
+pub use numbers::{AreaNo, Key, LaneNo, Point, StationNo, TargetNo, Tenths};
+pub use packet::{Packet, PacketFault};
+pub use rules::{Class, Rules};
+pub use setup::{Gain, Setup};
+pub use sites::{Sites, StationSite, TargetSite, lawful};
+pub use wave::{Sample, Wave};

@@ -1,0 +1,23 @@
+//! Answers for what the machine refuses.
+
+use std::alloc::{AllocError, AllocFailed};
+
+/// An allocation was refused.
+#[derive(Clone, Copy, Debug, PartialEq, Eq)]
+pub struct NoMemory;
+
+impl From<AllocError> for NoMemory {
+    fn from(_refusal: AllocError) -> NoMemory {
+        NoMemory
+    }
+}
+
+impl<T: Drop> From<AllocFailed<T>> for NoMemory {
+    fn from(_refusal: AllocFailed<T>) -> NoMemory {
+        NoMemory
+    }
+}
+
+/// A reader was not let in to the shared board.
+#[derive(Clone, Copy, Debug, PartialEq, Eq)]
+pub struct Shut;
