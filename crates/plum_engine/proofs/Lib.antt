@@ -1,0 +1,6 @@
+pub mod Signals
+pub mod Minute
+pub mod Reaching
+pub mod Runs
+pub mod Values
+pub mod Packets

@@ -1,0 +1,5 @@
+pub mod Keys
+pub mod Run
+pub mod Signal
+pub mod Level
+pub mod Engine
