@@ -1,0 +1,6 @@
+pub mod Pieces
+pub mod Readings
+pub mod Spelling
+pub mod Fields
+pub mod FirstFault
+pub mod Samples

@@ -1,0 +1,30 @@
+-- Captures: records one after the other (the project's own format).
+use Rattle.std.specs.Prelude.{◌≡◌, ℕ, ◌^◌, ◌<◌, List, [], ◌∷◌, ◌++◌, length}
+use Rattle.std.specs.List.{flat_map, AllByRecursion}
+use Rattle.byteorder.specs.Endian.{big_bytes}
+
+-- a record: the length of its body in two bytes, the higher first, and its body
+abbrev pub record_of : List ℕ → List ℕ
+record_of body = big_bytes 2 (length body) ++ body
+
+-- `MK`, the body of a mark
+abbrev pub mark_body : List ℕ
+mark_body = 77 ∷ 75 ∷ []
+
+-- as long as two bytes can say
+abbrev pub IsBody : List ℕ → Type 0
+IsBody body = length body < 2 ^ 16
+
+-- A whole record stands at the front.
+abbrev pub HasRecord : List ℕ → Type 0
+HasRecord bytes = (body : List ℕ) × (more : List ℕ) × IsBody body × (bytes ≡ record_of body ++ more)
+
+-- The bytes are the records of these bodies, in order, and a rest that does not start with a whole record.
+pub record IsCapture (bytes : List ℕ) (bodies : List (List ℕ)) (rest : List ℕ) : Type 0 where
+  pub spelled : bytes ≡ flat_map record_of bodies ++ rest
+  pub lengths : AllByRecursion IsBody bodies
+  pub no_more : ¬ HasRecord rest
+
+-- each is a byte
+abbrev pub AreBytes : List ℕ → Type 0
+AreBytes bytes = AllByRecursion (λ b. b < 256) bytes

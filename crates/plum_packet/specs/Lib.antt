@@ -1,0 +1,4 @@
+pub mod Capture
+pub mod Record
+pub mod Records
+pub mod Body
