@@ -1,0 +1,158 @@
+-- A history, one more packet on.
+use Rattle.std.proofs.Common.{◌≡◌, ℕ, ◌<◌, ◌≤◌, ◌%◌, true, false, ◌⊎◌, List, [], ◌∷◌, ◌++◌, map, filter, inl, inr, refl, sym, ◌∙◌, ap, subst, arith, append-nil, append_assoc, eqb-true, eq-eqb}
+use Rattle.std.proofs.lemmas.Bool.{cases_Bool}
+use Rattle.std.proofs.lemmas.List.{map-append, same_from_push}
+use Rattle.std.proofs.lemmas.List.Elements.{filter-append}
+use Rattle.std.specs.Prelude.{if◌then◌else◌, ◌==◌}
+use Rattle.plum_base.specs.declared.entry.Entry.{Entry}
+use Rattle.plum_base.specs.declared.packet.Packet.{Packet}
+use Rattle.plum_base.specs.declared.numbers.Key.{Key}
+use Rattle.plum_base.specs.declared.setup.Setup.{Setup}
+use Rattle.plum_base.specs.declared.wave.Sample.{Sample}
+use Rattle.plum_engine.specs.Keys.{is_kept, kept, is_fresh, marked}
+use Rattle.plum_engine.specs.Level.{IsValue}
+use Rattle.plum_engine.specs.Run.{samples_since_gap}
+use Rattle.plum_engine.specs.Signal.{amplitudes_of}
+use Rattle.plum.specs.History.{packet_of, of_station, packets_of, last_kept, IsEntryAfter, IsValidHistory, kept_packets_after, kept_packets, HoldsKept}
+use Rattle.plum.specs.Station.{IsEntryOf}
+use Rattle.plum.proofs.Kept.{kept-push, kept-push_repeat, is_kept-kept, last_kept-kept, marked-kept}
+use Rattle.plum.proofs.Pushes.{by_push, if-append}
+
+module _ (s : ℕ) (ps : List Packet) (p : Packet) where
+  -- the packets of the packet's own station
+  pub of_station-push : p.station.0 ≡ s → of_station s (ps ++ p ∷ []) ≡ of_station s ps ++ (p.key, p.wave) ∷ []
+  of_station-push own =
+      let test = λ (q : Packet). q.station.0 == s in
+      let pair : Packet → Key × List Sample = λ q. (q.key, q.wave) in
+      ap (map pair) (filter-append test ps (p ∷ []) ∙ ap (λ b. filter test ps ++ (if b then p ∷ [] else [])) (eq-eqb p.station.0 s own))
+      ∙ map-append pair (filter test ps) (p ∷ [])
+
+  -- the packets of another
+  pub of_station-push_other : (p.station.0 == s) ≡ false → of_station s (ps ++ p ∷ []) ≡ of_station s ps
+  of_station-push_other other =
+      let test = λ (q : Packet). q.station.0 == s in
+      let pair : Packet → Key × List Sample = λ q. (q.key, q.wave) in
+      ap (map pair) (filter-append test ps (p ∷ []) ∙ ap (λ b. filter test ps ++ (if b then p ∷ [] else [])) other ∙ append-nil (filter test ps))
+
+kept_packets_after-append : (earlier ps qs : List Packet) → kept_packets_after earlier (ps ++ qs) ≡ kept_packets_after earlier ps ++ kept_packets_after (earlier ++ ps) qs
+kept_packets_after-append earlier [] qs = ap (λ e. kept_packets_after e qs) (sym (append-nil earlier))
+kept_packets_after-append earlier (p ∷ ps) qs =
+    let front = earlier ++ p ∷ [] in
+    let rest : kept_packets_after front (ps ++ qs) ≡ kept_packets_after front ps ++ kept_packets_after (earlier ++ p ∷ ps) qs =
+    kept_packets_after-append front ps qs ∙ ap (λ e. kept_packets_after front ps ++ kept_packets_after e qs) (append_assoc earlier (p ∷ []) ps) in
+    rw rest (if-append (is_kept (of_station p.station.0 earlier) p.key) p (kept_packets_after front ps) (kept_packets_after (earlier ++ p ∷ ps) qs))
+
+module _ (ps : List Packet) (p : Packet) where
+  pub kept_packets-push : is_kept (of_station p.station.0 ps) p.key ≡ true → kept_packets (ps ++ p ∷ []) ≡ kept_packets ps ++ p ∷ []
+  kept_packets-push is = kept_packets_after-append [] ps (p ∷ []) ∙ ap (λ b. kept_packets ps ++ (if b then p ∷ [] else [])) is
+
+  pub kept_packets-push_repeat : is_kept (of_station p.station.0 ps) p.key ≡ false → kept_packets (ps ++ p ∷ []) ≡ kept_packets ps
+  kept_packets-push_repeat is =
+      kept_packets_after-append [] ps (p ∷ []) ∙ ap (λ b. kept_packets ps ++ (if b then p ∷ [] else [])) is ∙ append-nil (kept_packets ps)
+
+module _ (s : ℕ) (ps : List Packet) (p : Packet) (before : of_station s (kept_packets ps) ≡ kept (of_station s ps)) where
+  -- one more packet of the station
+  kept_of_station-push : p.station.0 ≡ s → of_station s (kept_packets (ps ++ p ∷ [])) ≡ kept (of_station s (ps ++ p ∷ []))
+  kept_of_station-push own =
+      let pair : Key × List Sample = (p.key, p.wave) in
+      let here : is_kept (of_station s ps) p.key ≡ is_kept (of_station p.station.0 ps) p.key = ap (λ t. is_kept (of_station t ps) p.key) (sym own) in
+      let more : kept (of_station s (ps ++ p ∷ [])) ≡ kept (of_station s ps ++ pair ∷ []) = ap kept (of_station-push s ps p own) in
+      elim (cases_Bool (is_kept (of_station p.station.0 ps) p.key)) [
+        | inl is ↦ ap (of_station s) (kept_packets-push ps p is) ∙ of_station-push s (kept_packets ps) p own ∙ ap (λ k. k ++ pair ∷ []) before
+            ∙ sym (more ∙ kept-push (of_station s ps) pair (here ∙ is))
+        | inr is ↦ ap (of_station s) (kept_packets-push_repeat ps p is) ∙ before ∙ sym (more ∙ kept-push_repeat (of_station s ps) pair (here ∙ is))
+      ]
+
+  -- one more packet of another station
+  kept_of_station-push_other : (p.station.0 == s) ≡ false → of_station s (kept_packets (ps ++ p ∷ [])) ≡ kept (of_station s (ps ++ p ∷ []))
+  kept_of_station-push_other other =
+      let same : kept (of_station s (ps ++ p ∷ [])) ≡ kept (of_station s ps) = ap kept (of_station-push_other s ps p other) in
+      elim (cases_Bool (is_kept (of_station p.station.0 ps) p.key)) [
+        | inl is ↦ ap (of_station s) (kept_packets-push ps p is) ∙ of_station-push_other s (kept_packets ps) p other ∙ before ∙ sym same
+        | inr is ↦ ap (of_station s) (kept_packets-push_repeat ps p is) ∙ before ∙ sym same
+      ]
+
+-- The kept packets of a station are the kept ones of its packets.
+pub of_station-kept_packets : (s : ℕ) (ps : List Packet) → of_station s (kept_packets ps) ≡ kept (of_station s ps)
+of_station-kept_packets s = by_push (λ ps. of_station s (kept_packets ps) ≡ kept (of_station s ps)) refl (λ ps p before.
+    elim (cases_Bool (p.station.0 == s)) [
+      | inl own ↦ kept_of_station-push s ps p before (eqb-true p.station.0 s own)
+      | inr other ↦ kept_of_station-push_other s ps p before other
+    ])
+
+-- what a history of the kept packets has of a station
+pub packets_of-kept : (s : ℕ) (history : List Entry) (ps : List Packet) → HoldsKept history ps → packets_of s history ≡ kept (of_station s ps)
+packets_of-kept s history ps holds = ap (of_station s) holds ∙ of_station-kept_packets s ps
+
+module _ (history : List Entry) (ps : List Packet) (holds : HoldsKept history ps) where
+  pub HoldsKept-repeat : (p : Packet) → is_kept (of_station p.station.0 ps) p.key ≡ false → HoldsKept history (ps ++ p ∷ [])
+  HoldsKept-repeat p is = holds ∙ sym (kept_packets-push_repeat ps p is)
+
+  pub HoldsKept-push : (e : Entry) → is_kept (of_station e.station.0 ps) e.key ≡ true → HoldsKept (history ++ e ∷ []) (ps ++ packet_of e ∷ [])
+  HoldsKept-push e is = map-append packet_of history (e ∷ []) ∙ ap (λ k. k ++ packet_of e ∷ []) holds ∙ sym (kept_packets-push ps (packet_of e) is)
+
+  -- An entry that is right after all packets of its station is right after the history of the kept ones.
+  pub IsEntryAfter-from_packets : (setup : Setup) (stations : ℕ) (e : Entry) → e.station.0 < stations → e.lane.0 ≡ e.station.0 % setup.lanes
+      → IsEntryOf setup (of_station e.station.0 ps) (packet_of e) e → IsEntryAfter setup stations history e
+  IsEntryAfter-from_packets setup stations e listed lane entry =
+      let own = of_station e.station.0 ps in
+      let of_history : packets_of e.station.0 history ≡ kept own = packets_of-kept e.station.0 history ps holds in
+      let more : marked (packets_of e.station.0 (history ++ e ∷ [])) ≡ marked (own ++ (e.key, e.wave) ∷ []) =
+      ap marked (packets_of-kept e.station.0 (history ++ e ∷ []) (ps ++ packet_of e ∷ []) (HoldsKept-push e entry.kept))
+      ∙ marked-kept (of_station e.station.0 (ps ++ packet_of e ∷ []))
+      ∙ ap marked (of_station-push e.station.0 ps (packet_of e) refl) in
+      record {
+        listed = listed;
+        lane = lane;
+        kept = ap (λ k. is_kept k e.key) of_history ∙ is_kept-kept own e.key ∙ entry.kept;
+        fresh = entry.fresh ∙ ap (λ o. is_fresh o e.key) (sym (ap last_kept of_history ∙ last_kept-kept own));
+        value = subst (λ m. IsValue setup.levels (amplitudes_of setup.gain (samples_since_gap m)) e.value) (sym more) entry.value;
+      }
+
+-- where a list with one more at its end is split
+split-push : {X : Type 0} (xs : List X) (x : X) (ys : List X) (y : X) (zs : List X) → xs ++ x ∷ [] ≡ ys ++ y ∷ zs
+    → ((xs ≡ ys) × (x ≡ y)) ⊎ ((ws : List X) × (xs ≡ ys ++ y ∷ ws))
+split-push {X} xs x ys y = by_push (λ zs. xs ++ x ∷ [] ≡ ys ++ y ∷ zs → ((xs ≡ ys) × (x ≡ y)) ⊎ ((ws : List X) × (xs ≡ ys ++ y ∷ ws)))
+    (λ is. inl (same_from_push xs ys x y is))
+    (λ ws w _ is. inr (ws, (same_from_push xs (ys ++ y ∷ ws) x w (is ∙ sym (append_assoc ys (y ∷ ws) (w ∷ [])))).0))
+
+module _ (setup : Setup) (stations : ℕ) where
+  pub IsValidHistory-nil : IsValidHistory setup stations []
+  IsValidHistory-nil [] e later is = cc
+  IsValidHistory-nil (f ∷ fs) e later is = cc
+
+  pub IsValidHistory-push : (history : List Entry) (e : Entry) → IsValidHistory setup stations history → IsEntryAfter setup stations history e
+      → IsValidHistory setup stations (history ++ e ∷ [])
+  IsValidHistory-push history e valid right earlier f later is =
+      elim (split-push history e earlier f later is) [
+        | inl last ↦ subst (λ h. IsEntryAfter setup stations h f) last.0 (subst (IsEntryAfter setup stations history) last.1 right)
+        | inr before ↦ valid earlier f before.0 before.1
+      ]
+
+-- the first lane, for station 0
+zero_lane : (lanes : ℕ) → 1 ≤ lanes → 0 % lanes ≡ 0
+zero_lane lanes some = omega arith
+
+module _ (setup : Setup) (history : List Entry) (ps : List Packet) (packet : Packet) (first : packet.station.0 ≡ 0) (holds : HoldsKept history ps) where
+  -- a repeat leaves the history of station 0
+  pub HoldsKept-station_repeat : is_kept (of_station 0 ps) packet.key ≡ false → HoldsKept history (ps ++ packet ∷ [])
+  HoldsKept-station_repeat is = HoldsKept-repeat history ps holds packet (ap (λ s. is_kept (of_station s ps) packet.key) first ∙ is)
+
+  module _ (e : Entry) (entry : IsEntryOf setup (of_station 0 ps) packet e) where
+    station_is : e.station.0 ≡ 0
+    station_is = ap (λ p. p.station.0) entry.same_packet ∙ first
+
+    own : IsEntryOf setup (of_station e.station.0 ps) (packet_of e) e
+    own =
+        subst (λ s. IsEntryOf setup (of_station s ps) (packet_of e) e) (sym station_is)
+        (subst (λ p. IsEntryOf setup (of_station 0 ps) p e) (sym entry.same_packet) entry)
+
+    -- a kept packet adds its entry
+    pub HoldsKept-station_push : HoldsKept (history ++ e ∷ []) (ps ++ packet ∷ [])
+    HoldsKept-station_push =
+        subst (λ p. HoldsKept (history ++ e ∷ []) (ps ++ p ∷ [])) entry.same_packet (HoldsKept-push history ps holds e own.kept)
+
+    pub IsValidHistory-station_push : IsValidHistory setup 1 history → IsValidHistory setup 1 (history ++ e ∷ [])
+    IsValidHistory-station_push valid =
+        let lane : e.lane.0 ≡ e.station.0 % setup.lanes = entry.lane ∙ sym (zero_lane setup.lanes setup.lanes_in_range.0) ∙ ap (λ s. s % setup.lanes) (sym station_is) in
+        IsValidHistory-push setup 1 history e valid (IsEntryAfter-from_packets history ps holds setup 1 e (omega (arith, station_is)) lane own)

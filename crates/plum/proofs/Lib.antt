@@ -1,0 +1,9 @@
+pub mod Words
+pub mod Shown
+pub mod Reading
+pub mod Pushes
+pub mod Kept
+pub mod Judged
+pub mod Stations
+pub mod Histories
+pub mod Replaying

@@ -1,0 +1,14 @@
+pub mod Job
+pub mod Bodies
+pub mod History
+pub mod Judged
+pub mod Station
+pub mod Prediction
+pub mod Classes
+pub mod Lines
+pub mod Fields
+pub mod Texts
+pub mod Row
+pub mod Replayed
+pub mod Status
+pub mod Stops

@@ -1,0 +1,51 @@
+-- Predictions by PLUM (Kodera and others 2018): no source is estimated. The prediction at a target is the greatest
+-- intensity less site factor that a reporting station within 30 km shows, plus the target's factor.
+use Rattle.std.specs.Prelude.{◌≡◌, ℕ, Bool, true, ◌&&◌, ◌==◌, int_le, ℤ, pos, neg_ℤ, ◌+ℤ◌, ◌-ℤ◌, ◌≤ℤ◌, ◌+◌, ◌*◌, ◌≤◌, List, [], ◌∷◌, filter, Option, Some, None, slice_get}
+use Rattle.plum_engine.specs.Signal.{square}
+use Rattle.plum_base.specs.declared.entry.Entry.{Entry}
+use Rattle.plum_base.specs.declared.numbers.Point.{Point}
+use Rattle.plum_base.specs.declared.numbers.Tenths.{Tenths}
+use Rattle.plum_base.specs.declared.sites.StationSite.{StationSite}
+use Rattle.plum_base.specs.declared.sites.TargetSite.{TargetSite}
+
+-- from -10.0 to 22.7: what a threshold table can give
+abbrev pub IsOnScale : Tenths → Type 0
+IsOnScale t = (neg_ℤ (pos 100) ≤ℤ t.0) × (t.0 ≤ℤ pos 227)
+
+-- none, or on the scale
+abbrev pub is_in_scale : Option Tenths → Bool
+is_in_scale None = true
+is_in_scale (Some t) = int_le (neg_ℤ (pos 100)) t.0 && int_le t.0 (pos 227)
+
+-- the value of the last of these entries, or what was shown before them
+abbrev pub last_value : Option Tenths → List Entry → Option Tenths
+last_value before [] = before
+last_value before (e ∷ es) = last_value e.value es
+
+-- What a station shows in a history: the value after its last entry there, none where it has no entry. An entry whose
+-- value is off the scale is passed over; a valid history has none.
+abbrev pub shown : List Entry → ℕ → Option Tenths
+shown history station = last_value None (filter (λ e. (e.station.0 == station) && is_in_scale e.value) history)
+
+-- within 30 km, the boundary included
+abbrev pub IsNear : Point → Point → Type 0
+IsNear a b = square (a.x -ℤ b.x) + square (a.y -ℤ b.y) ≤ 30000 * 30000
+
+-- Station n is near the target and shows this value in the history.
+pub record Reports (stations : List StationSite) (history : List Entry) (target : TargetSite) (n : ℕ) (value : Tenths) : Type 0 where
+  pub site : StationSite
+  pub listed : slice_get stations n ≡ Some site
+  pub near : IsNear site.at target.at
+  pub shows : shown history n ≡ Some value
+
+-- what a station's value says at the target: less the station's factor, plus the target's
+abbrev pub corrected : StationSite → TargetSite → Tenths → ℤ
+corrected site target value = (value.0 -ℤ site.factor.0) +ℤ target.factor.0
+
+-- The prediction is none exactly where no near station reports. Any other is what one of those that report says, and no
+-- other says more.
+abbrev pub IsPrediction : List StationSite → List Entry → TargetSite → Option Tenths → Type 0
+IsPrediction stations history target None = (n : ℕ) (value : Tenths) → ¬ Reports stations history target n value
+IsPrediction stations history target (Some answer) =
+    ((n : ℕ) × (value : Tenths) × (r : Reports stations history target n value) × (answer.0 ≡ corrected r.site target value))
+    × ((n : ℕ) (value : Tenths) (r : Reports stations history target n value) → corrected r.site target value ≤ℤ answer.0)

@@ -1,0 +1,29 @@
+-- The built-in setup, station and target.
+use Rattle.std.specs.Prelude.{◌≡◌, pos, List, [], ◌∷◌}
+use Rattle.plum_base.specs.declared.sites.StationSite.{StationSite}
+use Rattle.plum_base.specs.declared.sites.TargetSite.{TargetSite}
+use Rattle.plum_base.specs.declared.setup.Setup.{Setup}
+use Rattle.plum_base.specs.declared.rules.Class.TheVariants.{C3, C4}
+use Rattle.plum_base.specs.Levels.{Table}
+use Rattle.plum_engine.specs.Engine.{pass_through}
+
+-- from the second tenth of class 2 on, at the amplitudes 0, 10, 20 and 30
+abbrev pub row_table : Table
+row_table = record { thresholds = 0 ∷ 100 ∷ 400 ∷ 900 ∷ []; base = record { 0 = pos 20 } }
+
+pub record IsRowSetup (setup : Setup) : Type 0 where
+  pub cascade : setup.cascade ≡ pass_through
+  pub gain : setup.gain ≡ record { g = 1; h = 0 }
+  pub levels : setup.levels ≡ row_table
+  pub rules : setup.rules ≡ record { raise = C4; cancel = C3; calm = 2 }
+  pub lanes : setup.lanes ≡ 1
+  pub queue : setup.queue ≡ 16
+
+-- code 1 at (0, 0), with no factor
+abbrev pub row_stations : List StationSite
+row_stations = record { code = 1; at = record { x = pos 0; y = pos 0 }; factor = record { 0 = pos 0 } } ∷ []
+
+-- `t1` in the area `a` at (0, 0), with no factor
+abbrev pub row_targets : List TargetSite
+row_targets =
+    record { name = 116 ∷ 49 ∷ []; area = 97 ∷ []; at = record { x = pos 0; y = pos 0 }; factor = record { 0 = pos 0 } } ∷ []

@@ -1,0 +1,52 @@
+//! plum: an earthquake early warning centre that replays captures.
+#![tactic(auto)]
+
+mod built_in;
+mod history;
+mod job;
+mod packets;
+mod predict;
+mod replay;
+mod run;
+mod status;
+mod text;
+
+pub use job::paths_of;
+use plum_base::NoMemory;
+use plum_host::StdHost;
+pub use run::run;
+pub use status::{Status, status_number, status_text};
+use std::env;
+use std::io::{ErrorKind, Write};
+use std::process::ExitCode;
+
+#[cfg(test)]
+mod tests;
+
+/// Runs the words of the command line over files and standard output. Words that are no text are not of the grammar.
+fn start(rt: &HostRuntime) -> Result<Status, NoMemory> {
+    let alloc = rt.alloc();
+    let args = match env::args(rt) {
+        Ok(args) => args,
+        Err(refusal) if refusal.kind() == ErrorKind::OutOfMemory => return Err(NoMemory),
+        Err(_) => return Ok(Status::Usage),
+    };
+    let mut words = Vec::new(alloc);
+    for word in args.skip(1) {
+        words.push(word)?;
+    }
+    let paths = paths_of(alloc, &words)?;
+    let mut host = StdHost::new(rt, paths);
+    Ok(run(alloc, &words, &mut host))
+}
+
+fn main(rt: HostRuntime) -> ExitCode {
+    let Ok(status) = start(&rt) else {
+        return ExitCode::from(status_number(&Status::NoMemory));
+    };
+    if let Ok(text) = status_text(rt.alloc(), &status) {
+        // A status line that cannot be printed changes nothing: the number stays.
+        let _ = rt.stderr().write_all(text.as_slice());
+    }
+    ExitCode::from(status_number(&status))
+}

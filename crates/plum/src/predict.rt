@@ -1,0 +1,117 @@
+//! Predictions by PLUM, by a scan of all stations.
+
+ghost use Rattle.std.specs.Prelude.{◌≡◌, ◌↔◌, ◌≤◌, ◌&&◌, ◌==◌, length, All, IsTrue, Some, None, IfSome, IfNone, pos, nat_abs, ◌-ℤ◌, ◌+ℤ◌, ◌≤ℤ◌};
+ghost use Rattle.plum_base.specs.declared.numbers.Tenths.{Tenths};
+ghost use Rattle.plum_base.specs.Sites.{IsPlace};
+ghost use Rattle.plum_base.specs.Levels.{IsFactor};
+ghost use Rattle.plum.specs.Prediction.{is_in_scale, shown, corrected, IsOnScale, IsNear};
+
+use plum_base::{Entry, Point, StationNo, StationSite, TargetSite, Tenths};
+
+/// The radius of PLUM, in metres.
+const RADIUS: u64 = 30_000;
+
+/// How far two coordinates of the grid are apart, in metres.
+fn apart(a: i32, b: i32) -> u64
+    requires a_low { pos 0 ≤ℤ a }
+    requires a_high { a ≤ℤ pos 4194303 }
+    requires b_low { pos 0 ≤ℤ b }
+    requires b_high { b ≤ℤ pos 4194303 }
+    ensures value { result ≡ nat_abs (a -ℤ b) }
+    ensures bound { result ≤ 4194303 }
+{
+    u64::from(a.abs_diff(b))
+}
+
+/// Whether the place is within the radius, the boundary included.
+fn is_near(a: Point, b: Point) -> bool
+    requires a_on_grid { IsPlace a }
+    requires b_on_grid { IsPlace b }
+    ensures { IsTrue result ↔ IsNear a b }
+{
+    let dx = apart(a.x, b.x);
+    let dy = apart(a.y, b.y);
+    dx * dx + dy * dy <= RADIUS * RADIUS
+}
+
+/// What a station shows after these entries.
+fn shown(history: &[Entry], station: StationNo) -> Option<Tenths>
+    ensures value { result ≡ shown history.now station.0 }
+    ensures scale { IfSome result IsOnScale }
+{
+    let mut value = None;
+    for entry in history {
+        if is_shown_by(entry, station) {
+            value = entry.value;
+        }
+    }
+    value
+}
+
+/// Whether the entry is one of the station's, with a value on the scale.
+fn is_shown_by(entry: &Entry, station: StationNo) -> bool
+    ensures value { result ≡ ((entry.now.station.0 == station.0) && is_in_scale entry.now.value) }
+    ensures scale { IsTrue result → IfSome entry.now.value IsOnScale }
+{
+    entry.station.0 == station.0 && is_in_scale(entry.value)
+}
+
+/// Whether a value is none or from -10.0 to 22.7.
+fn is_in_scale(value: Option<Tenths>) -> bool
+    ensures value { result ≡ is_in_scale value }
+    ensures scale { IsTrue result → IfSome value IsOnScale }
+{
+    match value {
+        None => true,
+        Some(t) => -100 <= t.0 && t.0 <= 227,
+    }
+}
+
+/// What a station says at the target: its value less its own factor, plus the target's. None where it is not near or
+/// does not report.
+fn said_by(
+    site: &StationSite,
+    station: StationNo,
+    history: &[Entry],
+    target: &TargetSite,
+) -> Option<Tenths>
+    requires place { IsPlace site.now.at }
+    requires factor { IsFactor site.now.factor }
+    requires target_place { IsPlace target.now.at }
+    requires target_factor { IsFactor target.now.factor }
+    ensures some { IfSome result (λ t. IsNear site.now.at target.now.at
+        × (value : Tenths) × (shown history.now station.0 ≡ Some value) × (t.0 ≡ corrected site.now target.now value)) }
+    ensures none { IfNone result (IsNear site.now.at target.now.at → shown history.now station.0 ≡ None) }
+{
+    if !is_near(site.at, target.at) {
+        return None;
+    }
+    let value = shown(history, station)?;
+    Some(moved(value, site.factor, target.factor))
+}
+
+/// A value less one factor, plus the other.
+fn moved(value: Tenths, from: Tenths, to: Tenths) -> Tenths
+    requires scale { IsOnScale value }
+    requires from { IsFactor from }
+    requires to { IsFactor to }
+    ensures { result.0 ≡ (value.0 -ℤ from.0) +ℤ to.0 }
+{
+    Tenths(value.0 - from.0 + to.0)
+}
+
+/// The prediction at a target over the board after these entries: the greatest of what the stations say.
+pub fn predict(stations: &[StationSite], history: &[Entry], target: &TargetSite) -> Option<Tenths>
+    requires few { length stations.now ≤ 4096 }
+    requires places { All (λ s. IsPlace s.at) stations.now }
+    requires factors { All (λ s. IsFactor s.factor) stations.now }
+    requires target_place { IsPlace target.now.at }
+    requires target_factor { IsFactor target.now.factor }
+{
+    let mut greatest: Option<Tenths> = None;
+    for (n, site) in stations.iter().enumerate() {
+        let said = said_by(site, StationNo(n as u16), history, target);
+        greatest = greatest.max(said);
+    }
+    greatest
+}

@@ -1,0 +1,58 @@
+//! The top call.
+
+ghost use Rattle.std.specs.Prelude.{◌≡◌, ◌≢◌, ◌↔◌, ◌≤◌, ℕ, List, [], map, string_bytes, Some, None};
+ghost use Rattle.plum_base.specs.declared.packet.Packet.{Packet};
+ghost use Rattle.plum_host.specs.declared.host.In.{In};
+ghost use Rattle.plum_host.specs.declared.host.In.TheVariants.{Capture};
+ghost use Rattle.plum_host.specs.declared.host.To.TheVariants.{Journal};
+ghost use Rattle.plum_host.specs.Faults.{HasRisen};
+ghost use Rattle.plum.specs.Bodies.{StopsAt};
+ghost use Rattle.plum.specs.Job.{job_of};
+ghost use Rattle.plum.specs.Replayed.{AppendsJournal, IsOneSegment};
+ghost use Rattle.plum.specs.Row.{row_stations};
+
+use crate::job::read_words;
+use crate::replay::{Stop, replay};
+use crate::status::Status;
+use plum_host::Host;
+use std::alloc::Global;
+
+/// Does what the words ask for: `replay` writes the journal and the predictions of the capture.
+///
+/// The setup, the station and the target are built in. What a host does not tell, no clause speaks of.
+pub fn run<H: Host>(alloc: Global, words: &[String], host: &mut H) -> Status
+    // The words alone decide whether there is work. Without work nothing is read or written.
+    ensures usage { (result ≡ Status.Usage) ↔ (job_of (map string_bytes words.now) ≡ None) }
+    ensures idle { result ≡ Status.Usage → host.new ≡ host.old }
+
+    // The work done: the capture is read to its end, and its journal is appended.
+    ensures journal { result ≡ Status.Done → (capture : List ℕ) → H.left host.old Capture ≡ Some capture
+        → AppendsJournal capture (H.held host.old Journal) (H.held host.new Journal) }
+    ensures segment { result ≡ Status.Done → (capture : List ℕ) → H.left host.old Capture ≡ Some capture
+        → (packets : List Packet) × (tail : ℕ) × IsOneSegment row_stations capture packets tail }
+    ensures whole { result ≡ Status.Done → (capture : List ℕ) → H.left host.old Capture ≡ Some capture
+        → H.left host.new Capture ≡ Some [] }
+
+    // A record that is a mark, no packet, or the last that a segment holds.
+    ensures not_yet { (n : ℕ) → result ≡ Status.NotYet n → (capture : List ℕ) → H.left host.old Capture ≡ Some capture
+        → StopsAt row_stations capture n }
+
+    // A fault of reading or writing has its cause.
+    ensures read_fault { result ≡ Status.ReadFault → HasRisen (H.read_faults host.old) (H.read_faults host.new) }
+    ensures write_fault { result ≡ Status.WriteFault → HasRisen (H.write_faults host.old) (H.write_faults host.new) }
+
+    ensures other_inputs { (other : In) → other ≢ Capture → H.left host.new other ≡ H.left host.old other }
+    ensures read_faults { H.read_faults host.old ≤ H.read_faults host.new }
+    ensures write_faults { H.write_faults host.old ≤ H.write_faults host.new }
+{
+    if read_words(words).is_none() {
+        return Status::Usage;
+    }
+    match replay(alloc, host) {
+        Ok(()) => Status::Done,
+        Err(Stop::Read) => Status::ReadFault,
+        Err(Stop::Write) => Status::WriteFault,
+        Err(Stop::NoMemory) => Status::NoMemory,
+        Err(Stop::NotYet(record)) => Status::NotYet(record),
+    }
+}

@@ -1,0 +1,6 @@
+//! The lines of the journal and of the output.
+
+pub mod class;
+pub mod journal;
+pub mod lines;
+pub mod write;
