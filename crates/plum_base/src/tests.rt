@@ -16,11 +16,21 @@ const IDENTITY: Stage = Stage {
 };
 
 #[test]
-fn cascade_faults(rt: HostRuntime) -> Result<(), Fail> {
+fn lines_and_range_faults(rt: HostRuntime) {
     assert_eq!(rt;
         Cascade::new(ArrayVec::new()).err(),
         Some(CascadeFault::Empty)
     );
+    let mut thresholds = ArrayVec::new();
+    thresholds.push(1);
+    assert_eq!(rt;
+        Levels::new(thresholds, Tenths(20)).err(),
+        Some(LevelFault::First)
+    );
+}
+
+#[test]
+fn cascade_faults(rt: HostRuntime) -> Result<(), Fail> {
     let faulty = [
         Stage { q: 0, ..IDENTITY },
         Stage { q: 31, ..IDENTITY },
@@ -51,9 +61,8 @@ fn cascade_faults(rt: HostRuntime) -> Result<(), Fail> {
 
 #[test]
 fn level_faults(rt: HostRuntime) -> Result<(), Fail> {
-    let rows: [(&[u64], i16, LevelFault); 6] = [
+    let rows: [(&[u64], i16, LevelFault); 5] = [
         (&[], 20, LevelFault::Empty),
-        (&[1], 20, LevelFault::First),
         (&[0, 100, 100], 20, LevelFault::Order(2)),
         (&[0, 3_458_764_513_820_540_929], 20, LevelFault::Above(1)),
         (&[0, 100, 400, 900], 101, LevelFault::Base),

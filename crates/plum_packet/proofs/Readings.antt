@@ -1,8 +1,8 @@
 -- The readings of a list of bytes as a capture.
-use Rattle.std.proofs.Common.{◌≡◌, ℕ, zero, suc, ◌<◌, ◌≤◌, inl, inr, List, [], ◌∷◌, ◌++◌, length, get_or, take, drop, refl, sym, ap, ◌∙◌, subst, arith, append_assoc, length-drop, take-append-drop}
+use Rattle.std.proofs.Common.{◌≡◌, ℕ, zero, suc, ◌<◌, ◌≤◌, ◌⊎◌, inl, inr, List, [], ◌∷◌, ◌++◌, length, get_or, take, drop, refl, sym, ap, ◌∙◌, subst, arith, append_assoc, length-drop, take-append-drop}
 use Rattle.std.proofs.lemmas.Bool.{cases_lt}
 use Rattle.std.proofs.lemmas.List.{length-take-le, get_or-take}
-use Rattle.std.specs.List.{flat_map}
+use Rattle.std.specs.List.{flat_map, AllByRecursion}
 use Rattle.byteorder.specs.Endian.{big_number}
 use Rattle.byteorder.specs.Numbers.{big_from-take}
 use Rattle.plum_packet.specs.Capture.{record_of, IsBody, IsCapture, AreBytes}
@@ -90,6 +90,29 @@ one_reading bytes (a ∷ some) (b ∷ others) rest other left right =
     let again = one_reading (flat_map record_of some ++ rest) some others rest other (behind bytes a some rest left) (subst (λ l. IsCapture l others other) (sym peeled.1) (behind bytes b others other right)) in
     let same : a ∷ some ≡ b ∷ others = cc (peeled.0, again.0) in
     (same, again.1)
+
+-- The records of the second go on where those of the first end.
+abbrev pub GoesOn : List (List ℕ) → List ℕ → List (List ℕ) → List ℕ → Type 0
+GoesOn some more others rest = (last : List (List ℕ)) × (others ≡ some ++ last) × (more ≡ flat_map record_of last ++ rest)
+
+-- one more record in front of both
+GoesOn-before : (a b : List ℕ) (some others : List (List ℕ)) (more rest : List ℕ) → a ≡ b → GoesOn some more others rest → GoesOn (a ∷ some) more (b ∷ others) rest
+GoesOn-before a b some others more rest same on =
+    let joined : b ∷ others ≡ a ∷ (some ++ on.0) = cc (same, on.1) in
+    (on.0, joined, on.2)
+
+pub fronts : (some others : List (List ℕ)) (more rest : List ℕ) → AllByRecursion IsBody some → AllByRecursion IsBody others
+    → flat_map record_of some ++ more ≡ flat_map record_of others ++ rest → GoesOn some more others rest ⊎ GoesOn others rest some more
+fronts [] others more rest left right e = inl (others, refl, e)
+fronts (a ∷ some) [] more rest left right e = inr (a ∷ some, refl, sym e)
+fronts (a ∷ some) (b ∷ others) more rest left right e =
+    let joined : record_of a ++ (flat_map record_of some ++ more) ≡ record_of b ++ (flat_map record_of others ++ rest) =
+    sym (append_assoc (record_of a) (flat_map record_of some) more) ∙ e ∙ append_assoc (record_of b) (flat_map record_of others) rest in
+    let peeled = same_record a b _ _ left.0 right.0 joined in
+    elim (fronts some others more rest left.1 right.1 peeled.1) [
+      | inl on ↦ inl (GoesOn-before a b some others more rest peeled.0 on)
+      | inr on ↦ inr (GoesOn-before b a others some rest more (sym peeled.0) on)
+    ]
 
 pub tail_bound : (bytes : List ℕ) (bodies : List (List ℕ)) (rest : List ℕ) → AreBytes bytes → IsCapture bytes bodies rest → length rest ≤ 65536
 tail_bound bytes bodies rest are capture =

@@ -2,3 +2,4 @@ pub mod Capture
 pub mod Record
 pub mod Records
 pub mod Body
+pub mod Segments

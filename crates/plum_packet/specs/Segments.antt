@@ -1,0 +1,47 @@
+-- Segments of a capture (the project's own rule). A mark ends a segment, and so does the body that fills it. The last
+-- segment ends at the end of the capture and may be empty.
+use Rattle.std.specs.Prelude.{◌≡◌, ℕ, ◌+◌, ◌==◌, if◌then◌else◌, List, [], ◌∷◌, ◌++◌, length, filter_map, option_map, Result, Ok, Err}
+use Rattle.std.specs.List.{AllZip}
+use Rattle.std.specs.Result.{result_ok, result_err}
+use Rattle.std.specs.Str.{bytes_eq}
+use Rattle.plum_base.specs.declared.sites.StationSite.{StationSite}
+use Rattle.plum_base.specs.declared.packet.Packet.{Packet}
+use Rattle.plum_base.specs.declared.packet.PacketFault.{PacketFault}
+use Rattle.plum_packet.specs.Capture.{mark_body}
+use Rattle.plum_packet.specs.Body.{IsPacket, IsFirstFault}
+
+-- how many bodies a segment holds; marks are not counted
+abbrev pub segment_bodies : ℕ
+segment_bodies = 65536
+
+-- the segments of the records from number n on, where these bodies are in the open segment already: the bodies that are
+-- not marks, each with the number of its record
+abbrev pub segments_from : ℕ → List (ℕ × List ℕ) → List (List ℕ) → List (List (ℕ × List ℕ))
+segments_from n held [] = held ∷ []
+segments_from n held (body ∷ bodies) =
+    if bytes_eq body mark_body
+    then held ∷ segments_from (n + 1) [] bodies
+    else if length held + 1 == segment_bodies
+    then (held ++ (n, body) ∷ []) ∷ segments_from (n + 1) [] bodies
+    else segments_from (n + 1) (held ++ (n, body) ∷ []) bodies
+
+-- the segments of a capture of these bodies; records are numbered from 1, marks included
+abbrev pub segments_of : List (List ℕ) → List (List (ℕ × List ℕ))
+segments_of bodies = segments_from 1 [] bodies
+
+-- What a body reads as: a packet, or its first fault.
+abbrev pub ReadsAs : List StationSite → List ℕ → Result Packet PacketFault → Type 0
+ReadsAs stations body (Ok packet) = IsPacket stations body packet
+ReadsAs stations body (Err fault) = IsFirstFault stations body fault
+
+-- This is the segment with its bodies read, each beside the number of its record.
+abbrev pub IsReadSegment : List StationSite → List (ℕ × List ℕ) → List (ℕ × Result Packet PacketFault) → Type 0
+IsReadSegment stations segment read = AllZip (λ body answer. (answer.0 ≡ body.0) × ReadsAs stations body.1 answer.1) segment read
+
+-- the packets of a segment, in file order
+abbrev pub packets_in : List (ℕ × Result Packet PacketFault) → List Packet
+packets_in read = filter_map (λ answer. result_ok answer.1) read
+
+-- the refused bodies of a segment: the numbers of their records, and their faults
+abbrev pub refused_in : List (ℕ × Result Packet PacketFault) → List (ℕ × PacketFault)
+refused_in read = filter_map (λ answer. option_map (λ fault. (answer.0, fault)) (result_err answer.1)) read
