@@ -30,14 +30,26 @@ pub(crate) fn append(window: &mut HeapCircularBuffer<u64>, gain: Gain, samples: 
     }
 }
 
+/// How many of the amplitudes are at least the threshold.
+fn count_reaching(amplitudes: &[u64], threshold: u64) -> usize
+    ensures { result ≡ count_by (λ a. nat_le threshold a) amplitudes.now }
+{
+    let mut count = 0;
+    for amplitude in amplitudes {
+        if *amplitude >= threshold {
+            count += 1;
+        }
+    }
+    count
+}
+
 /// How many of the window are at least the threshold.
 fn reaching(window: &HeapCircularBuffer<u64>, threshold: u64) -> usize
     ensures { result ≡ count_by (λ a. nat_le threshold a) window.now.items }
 {
-    window
-        .iter()
-        .filter(|amplitude| **amplitude >= threshold)
-        .count()
+    // The ring's own iterator asks before each item in which of the two slices it stands.
+    let (front, back) = window.as_slices();
+    count_reaching(front, threshold) + count_reaching(back, threshold)
 }
 
 /// The place of the greatest threshold that enough of the window reach: none where the window is too short.
