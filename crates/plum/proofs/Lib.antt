@@ -6,4 +6,8 @@ pub mod Kept
 pub mod Judged
 pub mod Stations
 pub mod Histories
+pub mod Predictions
+pub mod AnswerLines
+pub mod Stops
+pub mod OneSegment
 pub mod Replaying

@@ -16,10 +16,12 @@ pub if-append : {X : Type 0} (b : Bool) (x : X) (xs ys : List X) → (if b then 
 if-append true x xs ys = refl
 if-append false x xs ys = refl
 
-slice_get_after : {X : Type 0} (xs : List X) (x : X) → slice_get (xs ++ x ∷ []) (length xs) ≡ Some x
+-- the element after the others
+pub slice_get_after : {X : Type 0} (xs : List X) (x : X) → slice_get (xs ++ x ∷ []) (length xs) ≡ Some x
 slice_get_after [] x = refl
 slice_get_after (y ∷ ys) x = slice_get_after ys x
 
+-- the last element
 pub slice_get_last : {X : Type 0} (xs : List X) (x : X) → slice_get (xs ++ x ∷ []) (length (xs ++ x ∷ []) - 1) ≡ Some x
 slice_get_last xs x =
     let last : length (xs ++ x ∷ []) - 1 ≡ length xs = omega (arith, length_push xs x) in

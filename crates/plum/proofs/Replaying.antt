@@ -1,13 +1,22 @@
--- What a replay wrote is the journal of the capture.
-use Rattle.std.proofs.Common.{◌≡◌, ℕ, ◌≤◌, Bool, true, false, cond, List, [], ◌∷◌, ◌++◌, length, Option, Some, None, ap, subst, ◌∙◌, arith}
+-- What a replay counts and appends.
+use Rattle.std.proofs.Common.{◌≡◌, ℕ, ◌-◌, ◌≤◌, Bool, true, false, cond, List, [], ◌∷◌, ◌++◌, length, Option, Some, None, refl, sym, ap, subst, ◌∙◌, arith}
 use Rattle.std.proofs.lemmas.List.{append-nil, length-map}
 use Rattle.plum_base.specs.declared.packet.Packet.{Packet}
+use Rattle.plum_base.specs.declared.answers.Reading.{Reading}
 use Rattle.plum_base.specs.declared.entry.Entry.{Entry}
+use Rattle.plum_base.specs.declared.setup.Setup.{Setup}
+use Rattle.plum_base.specs.Sites.{areas_of}
+use Rattle.std.specs.Prelude.{slice_get}
 use Rattle.plum_host.specs.declared.host.To.TheVariants.{Out, Journal}
 use Rattle.plum_host.specs.Told.{Appends}
 use Rattle.plum_engine.specs.Keys.{is_kept}
-use Rattle.plum.specs.History.{packet_of, of_station, kept_packets_after, HoldsKept}
-use Rattle.plum.specs.Replayed.{AppendsJournal, IsRowJournal}
+use Rattle.plum.specs.declared.text.lines.Counts.{Counts}
+use Rattle.plum.specs.History.{packet_of, of_station, kept_packets_after, HoldsKept, IsValidHistory}
+use Rattle.plum.specs.Replayed.{IsOneSegment, IsReplay}
+use Rattle.plum.specs.Row.{IsRowSetup, row_stations, row_targets, row_sites}
+use Rattle.plum.specs.Texts.{entry_lines, quiet_section, sections_of, output_text}
+use Rattle.plum.specs.Transcript.{targets_of, ArePredictions, IsLegal}
+use Rattle.plum.proofs.OneSegment.{all_lawful, packets_in-all_lawful, read_one, one_reading, legal_one, journal_one, section_one}
 
 no_more : (b : Bool) (p : Packet) (ps kept : List Packet) → length kept ≤ length ps → length (cond b (p ∷ kept) kept) ≤ length (p ∷ ps)
 no_more true p ps kept h = omega arith
@@ -24,10 +33,38 @@ length-HoldsKept history packets holds =
     omega (arith, length-map history packet_of, ap length holds, length-kept_packets_after [] packets)
 
 -- nothing, and then a text
-pub appends_text : (capture text : List ℕ) (before opened after : Option (List ℕ)) → Appends before opened [] → Appends opened after text → IsRowJournal capture text → AppendsJournal capture before after
-appends_text capture text None opened after h k is = tt
-appends_text capture text (Some held) opened after h k is =
-    (text, (subst (λ o. Appends o after text) h k) ∙ ap (λ front. Some (front ++ text)) (append-nil held), is)
+pub appends_text : (text : List ℕ) (before opened after : Option (List ℕ)) → Appends before opened [] → Appends opened after text → Appends before after text
+appends_text text None opened after h k = tt
+appends_text text (Some held) opened after h k =
+    (subst (λ o. Appends o after text) h k) ∙ ap (λ front. Some (front ++ text)) (append-nil held)
+
+module _ (setup : Setup) (built_in : IsRowSetup setup) (capture : List ℕ) (packets : List Packet) (tail : ℕ) (segment : IsOneSegment row_stations capture packets tail) where
+  -- The answers for the one area are those for all targets.
+  of_the_area : (history : List Entry) (reading : Reading) → ArePredictions row_stations history row_targets reading.answers → (area : List ℕ)
+      → slice_get (areas_of row_targets) 0 ≡ Some area → ArePredictions row_stations history (targets_of area row_targets) reading.answers
+  of_the_area history reading are area named =
+      let is : 97 ∷ [] ≡ area = cc in
+      subst (λ name. ArePredictions row_stations history (targets_of name row_targets) reading.answers) is are
+
+  -- The lines of a valid and complete history, and the output of a reading over it, make a replay.
+  pub replay_of : (history : List Entry) (reading : Reading) (counts : Counts) (journal output : List ℕ) → IsValidHistory setup 1 history → HoldsKept history packets
+      → reading.front ≡ length history → ArePredictions row_stations history row_targets reading.answers
+      → counts ≡ record { bodies = length packets; kept = length history; repeats = length packets - length history; refused = 0 }
+      → journal ≡ entry_lines row_stations 1 1 history → output ≡ output_text row_targets (quiet_section counts reading ∷ []) tail
+      → IsReplay setup row_sites capture journal output
+  replay_of history reading counts journal output valid holds front are counted journal_is output_is = record {
+    bodies = segment.bodies;
+    rest = segment.rest;
+    reading = segment.reading;
+    segments = all_lawful 1 packets ∷ [];
+    read = read_one row_stations segment.bodies packets segment.decoded segment.few;
+    transcript = one_reading history reading;
+    legal = subst (λ ps. IsLegal setup row_sites (ps ∷ []) (one_reading history reading)) (sym (packets_in-all_lawful 1 packets))
+        (legal_one setup row_sites history reading packets front valid holds refl (of_the_area history reading are));
+    journal_is = journal_is ∙ sym (journal_one row_stations history reading);
+    output_is = output_is ∙ ap (λ sections. output_text row_targets sections tail) (sym (section_one history reading packets counts holds counted))
+        ∙ ap (output_text row_targets (sections_of (all_lawful 1 packets ∷ []) ((reading ∷ []) ∷ []))) segment.tail_is;
+  }
 
 pub outputs_differ : Journal ≡ Out → ⊥
 outputs_differ e = absurd cc

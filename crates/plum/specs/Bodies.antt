@@ -6,6 +6,7 @@ use Rattle.plum_base.specs.declared.packet.Packet.{Packet}
 use Rattle.plum_base.specs.declared.packet.PacketFault.{PacketFault}
 use Rattle.plum_packet.specs.Capture.{record_of, mark_body, IsBody}
 use Rattle.plum_packet.specs.Body.{IsPacket, IsFirstFault}
+pub use Rattle.plum_packet.specs.Segments.{segment_bodies}
 
 -- These bodies are these packets, one for one.
 abbrev pub ArePackets : List StationSite → List (List ℕ) → List Packet → Type 0
@@ -14,10 +15,6 @@ ArePackets stations (body ∷ bodies) (packet ∷ packets) =
     (body ≢ mark_body) × IsPacket stations body packet × ArePackets stations bodies packets
 ArePackets stations [] (packet ∷ packets) = ⊥
 ArePackets stations (body ∷ bodies) [] = ⊥
-
--- how many bodies a segment holds
-abbrev pub segment_bodies : ℕ
-segment_bodies = 65536
 
 -- Record n is the first that is a mark, a body that is no packet, or the last that a segment holds.
 pub record StopsAt (stations : List StationSite) (capture : List ℕ) (n : ℕ) : Type 0 where

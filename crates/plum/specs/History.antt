@@ -21,9 +21,13 @@ of_station station packets = map (λ p. (p.key, p.wave)) (filter (λ p. p.statio
 abbrev pub packets_of : ℕ → List Entry → List (Key × List Sample)
 packets_of station history = of_station station (map packet_of history)
 
+-- the last of these, none where there is none
+abbrev pub last : {X : Type 0} → List X → Option X
+last xs = slice_get xs (length xs - 1)
+
 -- the key of the last kept one of a station's packets
 abbrev pub last_kept : {W : Type 0} → List (Key × W) → Option Key
-last_kept packets = option_map (λ p. p.0) (slice_get (kept packets) (length (kept packets) - 1))
+last_kept packets = option_map (λ p. p.0) (last (kept packets))
 
 -- The entry is correct, given those before it, where there are this many stations.
 pub record IsEntryAfter (setup : Setup) (stations : ℕ) (earlier : List Entry) (e : Entry) : Type 0 where

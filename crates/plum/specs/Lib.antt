@@ -7,6 +7,7 @@ pub mod Prediction
 pub mod Classes
 pub mod Lines
 pub mod Fields
+pub mod Transcript
 pub mod Texts
 pub mod Row
 pub mod Replayed

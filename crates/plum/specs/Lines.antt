@@ -4,6 +4,9 @@ use Rattle.std.specs.Prelude.{ℕ, suc, ◌/◌, ◌%◌, Bool, true, false, ℤ
 use Rattle.std.specs.List.{flat_map}
 use Rattle.plum_base.specs.declared.numbers.Key.{Key}
 use Rattle.plum_base.specs.declared.numbers.Tenths.{Tenths}
+use Rattle.plum_base.specs.declared.packet.PacketFault.{PacketFault}
+use Rattle.plum_base.specs.declared.packet.PacketFault.TheVariants.{Short, Magic, Version, Flags, Station, Count, Length}
+use Rattle.plum.specs.declared.text.lines.Counts.{Counts}
 use Rattle.plum.specs.Classes.{class_of, class_text}
 
 -- fields, each behind one space
@@ -44,13 +47,27 @@ entry_line n segment code key fresh value =
     line (codes "E") (decimal n ∷ decimal segment ∷ decimal code ∷ decimal key.boot ∷ decimal key.number ∷ run_text fresh ∷ value_text value ∷ [])
 
 -- a number and four counts: bodies kept repeats refused
-abbrev pub counts_line : List ℕ → ℕ → ℕ → ℕ → ℕ → ℕ → List ℕ
-counts_line kind first bodies kept repeats refused =
-    line kind (decimal first ∷ decimal bodies ∷ decimal kept ∷ decimal repeats ∷ decimal refused ∷ [])
+abbrev pub counts_line : List ℕ → ℕ → Counts → List ℕ
+counts_line kind first counts =
+    line kind (decimal first ∷ decimal counts.bodies ∷ decimal counts.kept ∷ decimal counts.repeats ∷ decimal counts.refused ∷ [])
 
 -- M m bodies kept repeats refused
-abbrev pub mark_line : ℕ → ℕ → ℕ → ℕ → ℕ → List ℕ
-mark_line m bodies kept repeats refused = counts_line (codes "M") m bodies kept repeats refused
+abbrev pub mark_line : ℕ → Counts → List ℕ
+mark_line m counts = counts_line (codes "M") m counts
+
+-- a fault: its name and what it tells
+abbrev pub fault_fields : PacketFault → List (List ℕ)
+fault_fields Short = codes "P1" ∷ []
+fault_fields Magic = codes "P2" ∷ []
+fault_fields (Version v) = codes "P3" ∷ decimal v ∷ []
+fault_fields (Flags f) = codes "P4" ∷ decimal f ∷ []
+fault_fields (Station code) = codes "P5" ∷ decimal code ∷ []
+fault_fields (Count n) = codes "P6" ∷ decimal n ∷ []
+fault_fields (Length expected found) = codes "P7" ∷ decimal expected ∷ decimal found ∷ []
+
+-- X record fault
+abbrev pub refused_line : ℕ → PacketFault → List ℕ
+refused_line number fault = line (codes "X") (decimal number ∷ fault_fields fault)
 
 -- R m area front
 abbrev pub reading_line : ℕ → List ℕ → ℕ → List ℕ
@@ -65,5 +82,5 @@ abbrev pub tail_line : ℕ → List ℕ
 tail_line bytes = line (codes "T") (decimal bytes ∷ [])
 
 -- Z segments bodies kept repeats refused
-abbrev pub totals_line : ℕ → ℕ → ℕ → ℕ → ℕ → List ℕ
-totals_line segments bodies kept repeats refused = counts_line (codes "Z") segments bodies kept repeats refused
+abbrev pub totals_line : ℕ → Counts → List ℕ
+totals_line segments counts = counts_line (codes "Z") segments counts

@@ -1,7 +1,9 @@
 -- Predictions by PLUM (Kodera and others 2018): no source is estimated. The prediction at a target is the greatest
 -- intensity less site factor that a reporting station within 30 km shows, plus the target's factor.
-use Rattle.std.specs.Prelude.{◌≡◌, ℕ, Bool, true, ◌&&◌, ◌==◌, int_le, ℤ, pos, neg_ℤ, ◌+ℤ◌, ◌-ℤ◌, ◌≤ℤ◌, ◌+◌, ◌*◌, ◌≤◌, List, [], ◌∷◌, filter, Option, Some, None, slice_get}
+use Rattle.std.specs.Prelude.{◌≡◌, ℕ, Bool, true, ◌&&◌, ◌==◌, int_le, ℤ, pos, neg_ℤ, ◌+ℤ◌, ◌-ℤ◌, ◌≤ℤ◌, ◌+◌, ◌*◌, ◌≤◌, List, filter, Option, Some, None, slice_get}
+use Rattle.std.specs.Option.{option_and_then}
 use Rattle.plum_engine.specs.Signal.{square}
+use Rattle.plum.specs.History.{last}
 use Rattle.plum_base.specs.declared.entry.Entry.{Entry}
 use Rattle.plum_base.specs.declared.numbers.Point.{Point}
 use Rattle.plum_base.specs.declared.numbers.Tenths.{Tenths}
@@ -13,19 +15,18 @@ abbrev pub IsOnScale : Tenths → Type 0
 IsOnScale t = (neg_ℤ (pos 100) ≤ℤ t.0) × (t.0 ≤ℤ pos 227)
 
 -- none, or on the scale
-abbrev pub is_in_scale : Option Tenths → Bool
-is_in_scale None = true
-is_in_scale (Some t) = int_le (neg_ℤ (pos 100)) t.0 && int_le t.0 (pos 227)
+abbrev pub none_or_on_scale : Option Tenths → Bool
+none_or_on_scale None = true
+none_or_on_scale (Some t) = int_le (neg_ℤ (pos 100)) t.0 && int_le t.0 (pos 227)
 
--- the value of the last of these entries, or what was shown before them
-abbrev pub last_value : Option Tenths → List Entry → Option Tenths
-last_value before [] = before
-last_value before (e ∷ es) = last_value e.value es
+-- the station's entries whose value is none or on the scale
+abbrev pub shown_entries : List Entry → ℕ → List Entry
+shown_entries history station = filter (λ e. (e.station.0 == station) && none_or_on_scale e.value) history
 
--- What a station shows in a history: the value after its last entry there, none where it has no entry. An entry whose
+-- What a station shows in a history: the value of its last entry there, none where it has no entry. An entry whose
 -- value is off the scale is passed over; a valid history has none.
 abbrev pub shown : List Entry → ℕ → Option Tenths
-shown history station = last_value None (filter (λ e. (e.station.0 == station) && is_in_scale e.value) history)
+shown history station = option_and_then (λ e. e.value) (last (shown_entries history station))
 
 -- within 30 km, the boundary included
 abbrev pub IsNear : Point → Point → Type 0

@@ -1,14 +1,18 @@
--- What a replay of a capture of one segment wrote, and why it is right.
-use Rattle.std.specs.Prelude.{◌≡◌, ℕ, ◌<◌, ⊤, List, ◌++◌, length, Option, Some, None}
-use Rattle.plum_base.specs.declared.entry.Entry.{Entry}
+-- What a replay wrote, and why it is right.
+use Rattle.std.specs.Prelude.{◌≡◌, ℕ, ◌<◌, List, length, map, Option, Result}
+use Rattle.std.specs.List.{AllZip}
 use Rattle.plum_base.specs.declared.packet.Packet.{Packet}
+use Rattle.plum_base.specs.declared.packet.PacketFault.{PacketFault}
 use Rattle.plum_base.specs.declared.setup.Setup.{Setup}
 use Rattle.plum_base.specs.declared.sites.StationSite.{StationSite}
+use Rattle.plum_base.specs.Sites.{Lists}
+use Rattle.plum_host.specs.Told.{Appends}
 use Rattle.plum_packet.specs.Capture.{IsCapture}
-use Rattle.plum.specs.Bodies.{ArePackets, segment_bodies}
-use Rattle.plum.specs.History.{IsValidHistory, HoldsKept}
-use Rattle.plum.specs.Texts.{journal_text}
-use Rattle.plum.specs.Row.{IsRowSetup, row_stations}
+use Rattle.plum_packet.specs.Segments.{segment_bodies, segments_of, IsReadSegment, packets_in}
+use Rattle.plum.specs.Bodies.{ArePackets}
+use Rattle.plum.specs.Transcript.{Transcript, IsLegal}
+use Rattle.plum.specs.Texts.{journal_text, output_text, sections_of}
+use Rattle.plum.specs.Row.{IsRowSetup, row_sites}
 
 -- The capture is the records of these packets, and a tail.
 pub record IsOneSegment (stations : List StationSite) (capture : List ℕ) (packets : List Packet) (tail : ℕ) : Type 0 where
@@ -19,20 +23,25 @@ pub record IsOneSegment (stations : List StationSite) (capture : List ℕ) (pack
   pub few : length bodies < segment_bodies
   pub tail_is : tail ≡ length rest
 
--- The bytes are the journal of the capture under the built-in setup and sites: the lines of a valid history that holds
--- exactly the kept packets, each once, in file order.
-pub record IsRowJournal (capture bytes : List ℕ) : Type 0 where
-  pub setup : Setup
-  pub packets : List Packet
-  pub tail : ℕ
-  pub history : List Entry
-  pub built_in : IsRowSetup setup
-  pub segment : IsOneSegment row_stations capture packets tail
-  pub valid : IsValidHistory setup (length row_stations) history
-  pub complete : HoldsKept history packets
-  pub text : bytes ≡ journal_text row_stations 1 1 history
+-- The journal and the output are the two texts of one transcript, which is legal for the segments of the capture.
+pub record IsReplay (setup : Setup) (sites : Lists) (capture journal output : List ℕ) : Type 0 where
+  pub bodies : List (List ℕ)
+  pub rest : List ℕ
+  pub reading : IsCapture capture bodies rest
+  pub segments : List (List (ℕ × Result Packet PacketFault))
+  pub read : AllZip (IsReadSegment sites.stations) (segments_of bodies) segments
+  pub transcript : Transcript
+  pub legal : IsLegal setup sites (map packets_in segments) transcript
+  pub journal_is : journal ≡ journal_text sites.stations transcript
+  pub output_is : output ≡ output_text sites.targets (sections_of segments transcript.readings) (length rest)
 
--- Bytes that make the capture's journal are appended.
-abbrev pub AppendsJournal : List ℕ → Option (List ℕ) → Option (List ℕ) → Type 0
-AppendsJournal capture None after = ⊤
-AppendsJournal capture (Some held) after = (written : List ℕ) × (after ≡ Some (held ++ written)) × IsRowJournal capture written
+-- The two texts of a replay of this capture, under the built-in setup and sites, are appended to what the journal and the
+-- output held.
+pub record AppendsReplay (capture : List ℕ) (journal_before journal_after out_before out_after : Option (List ℕ)) : Type 0 where
+  pub setup : Setup
+  pub built_in : IsRowSetup setup
+  pub journal : List ℕ
+  pub output : List ℕ
+  pub replay : IsReplay setup row_sites capture journal output
+  pub journal_appended : Appends journal_before journal_after journal
+  pub output_appended : Appends out_before out_after output

@@ -5,6 +5,7 @@ use Rattle.plum_base.specs.declared.sites.TargetSite.{TargetSite}
 use Rattle.plum_base.specs.declared.setup.Setup.{Setup}
 use Rattle.plum_base.specs.declared.rules.Class.TheVariants.{C3, C4}
 use Rattle.plum_base.specs.Levels.{Table}
+use Rattle.plum_base.specs.Sites.{Lists}
 use Rattle.plum_engine.specs.Engine.{pass_through}
 
 -- from the second tenth of class 2 on, at the amplitudes 0, 10, 20 and 30
@@ -27,3 +28,6 @@ row_stations = record { code = 1; at = record { x = pos 0; y = pos 0 }; factor =
 abbrev pub row_targets : List TargetSite
 row_targets =
     record { name = 116 ∷ 49 ∷ []; area = 97 ∷ []; at = record { x = pos 0; y = pos 0 }; factor = record { 0 = pos 0 } } ∷ []
+
+abbrev pub row_sites : Lists
+row_sites = record { stations = row_stations; targets = row_targets }

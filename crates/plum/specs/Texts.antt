@@ -1,11 +1,18 @@
--- The journal and the output of a capture of one segment.
-use Rattle.std.specs.Prelude.{ℕ, ◌+◌, ◌-◌, List, [], ◌∷◌, ◌++◌, Option, Some, None, slice_get}
+-- The two texts of a run: the journal and the output (the project's own format).
+use Rattle.std.specs.Prelude.{ℕ, ◌+◌, ◌-◌, List, [], ◌∷◌, ◌++◌, length, map, sum_by, zip, Option, Some, None, Result, slice_get}
 use Rattle.std.specs.List.{flat_map}
+use Rattle.plum_base.specs.declared.answers.Reading.{Reading}
 use Rattle.plum_base.specs.declared.entry.Entry.{Entry}
 use Rattle.plum_base.specs.declared.numbers.Tenths.{Tenths}
+use Rattle.plum_base.specs.declared.packet.Packet.{Packet}
+use Rattle.plum_base.specs.declared.packet.PacketFault.{PacketFault}
 use Rattle.plum_base.specs.declared.sites.StationSite.{StationSite}
 use Rattle.plum_base.specs.declared.sites.TargetSite.{TargetSite}
-use Rattle.plum.specs.Lines.{entry_line, mark_line, reading_line, answer_line, tail_line, totals_line}
+use Rattle.plum_base.specs.Sites.{areas_of}
+use Rattle.plum_packet.specs.Segments.{packets_in, refused_in}
+use Rattle.plum.specs.declared.text.lines.Counts.{Counts}
+use Rattle.plum.specs.Lines.{entry_line, mark_line, refused_line, reading_line, answer_line, tail_line, totals_line}
+use Rattle.plum.specs.Transcript.{Transcript, kept_in_segments, targets_of}
 
 -- the code of the n-th station, from 0
 abbrev pub code_in : Option StationSite → ℕ
@@ -16,18 +23,74 @@ abbrev pub code_of_station : List StationSite → ℕ → ℕ
 code_of_station stations n = code_in (slice_get stations n)
 
 -- the lines of these entries of a segment, the first of them at position n of the journal
-abbrev pub journal_text : List StationSite → ℕ → ℕ → List Entry → List ℕ
-journal_text stations segment n [] = []
-journal_text stations segment n (e ∷ es) =
-    entry_line n segment (code_of_station stations e.station.0) e.key e.fresh e.value ++ journal_text stations segment (n + 1) es
+abbrev pub entry_lines : List StationSite → ℕ → ℕ → List Entry → List ℕ
+entry_lines stations segment n [] = []
+entry_lines stations segment n (e ∷ es) =
+    entry_line n segment (code_of_station stations e.station.0) e.key e.fresh e.value ++ entry_lines stations segment (n + 1) es
+
+-- the lines of these parts of the journal, the first of them of this segment and with this position
+abbrev pub part_lines : List StationSite → ℕ → ℕ → List (List Entry) → List ℕ
+part_lines stations segment n [] = []
+part_lines stations segment n (part ∷ parts) =
+    entry_lines stations segment n part ++ part_lines stations (segment + 1) (n + length part) parts
+
+-- the journal: a line for each entry, positions and segments from 1
+abbrev pub journal_text : List StationSite → Transcript → List ℕ
+journal_text stations t = part_lines stations 1 1 t.parts
+
+-- how many bodies a segment has, read, and how many of them are kept, repeats and refused
+abbrev pub counts_of : List (ℕ × Result Packet PacketFault) → List Packet → Counts
+counts_of read kept = record {
+  bodies = length read;
+  kept = length kept;
+  repeats = length (packets_in read) - length kept;
+  refused = length (refused_in read);
+}
+
+-- what the output tells at a mark
+pub record Section : Type 0 where
+  pub counts : Counts
+  pub refused : List (ℕ × PacketFault)
+  pub readings : List Reading
+
+-- a section without a refused body, of one area
+abbrev pub quiet_section : Counts → Reading → Section
+quiet_section counts reading = record { counts = counts; refused = []; readings = reading ∷ [] }
+
+-- the sections of these segments, read, with the readings at their marks
+abbrev pub sections_of : List (List (ℕ × Result Packet PacketFault)) → List (List Reading) → List Section
+sections_of segments readings =
+    map (λ s. record { counts = counts_of s.0.0 s.0.1; refused = refused_in s.0.0; readings = s.1 })
+    (zip (zip segments (kept_in_segments (map packets_in segments))) readings)
 
 -- the answers of a reading: a line for each target of the area
-abbrev pub answer_lines : ℕ → List (TargetSite × Option Tenths) → List ℕ
-answer_lines m answers = flat_map (λ a. answer_line m a.0.name a.1) answers
+abbrev pub answer_lines : ℕ → List TargetSite → List (Option Tenths) → List ℕ
+answer_lines m targets answers = flat_map (λ a. answer_line m a.0.name a.1) (zip targets answers)
 
--- the output of a capture of one segment whose targets are of one area: of these bodies this many were kept, the rest were
--- repeats
-abbrev pub output_text : List ℕ → List (TargetSite × Option Tenths) → ℕ → ℕ → ℕ → List ℕ
-output_text area answers bodies kept tail =
-    mark_line 1 bodies kept (bodies - kept) 0 ++ reading_line 1 area kept ++ answer_lines 1 answers
-    ++ tail_line tail ++ totals_line 1 bodies kept (bodies - kept) 0
+-- the reading of an area at mark m, over these targets of the area
+abbrev pub reading_lines : ℕ → List ℕ → List TargetSite → Reading → List ℕ
+reading_lines m area targets reading = reading_line m area reading.front ++ answer_lines m targets reading.answers
+
+-- the section of mark m; a single reading never raises an alert
+abbrev pub section_text : List TargetSite → ℕ → Section → List ℕ
+section_text targets m s =
+    mark_line m s.counts ++ flat_map (λ r. refused_line r.0 r.1) s.refused
+    ++ flat_map (λ r. reading_lines m r.0 (targets_of r.0 targets) r.1) (zip (areas_of targets) s.readings)
+
+abbrev pub section_texts : List TargetSite → ℕ → List Section → List ℕ
+section_texts targets m [] = []
+section_texts targets m (s ∷ ss) = section_text targets m s ++ section_texts targets (m + 1) ss
+
+-- the sums over all segments
+abbrev pub totals_of : List Section → Counts
+totals_of sections = record {
+  bodies = sum_by (λ s. s.counts.bodies) sections;
+  kept = sum_by (λ s. s.counts.kept) sections;
+  repeats = sum_by (λ s. s.counts.repeats) sections;
+  refused = sum_by (λ s. s.counts.refused) sections;
+}
+
+-- the output: the sections of all marks, the length of the tail and the totals
+abbrev pub output_text : List TargetSite → List Section → ℕ → List ℕ
+output_text targets sections tail =
+    section_texts targets 1 sections ++ tail_line tail ++ totals_line (length sections) (totals_of sections)

@@ -1,6 +1,7 @@
 //! plum: an earthquake early warning centre that replays captures.
 #![tactic(auto)]
 
+mod area;
 mod built_in;
 mod history;
 mod job;

@@ -61,7 +61,12 @@ impl<T: Drop> From<AllocFailed<T>> for ReadStop {
 }
 
 /// The packet of a record, which is neither a mark nor the last that a segment holds.
-fn packet_of(alloc: Global, sites: &Sites, body: Body, bytes: &[u8]) -> Result<Packet, ReadStop>
+fn packet_of_record(
+    alloc: Global,
+    sites: &Sites,
+    body: Body,
+    bytes: &[u8],
+) -> Result<Packet, ReadStop>
     requires number { body.number ≤ segment_bodies }
     requires bound { length bytes.now < 65536 }
     ensures packet { IfOk result (λ packet. (body.mark ≡ false) × (body.number < segment_bodies) × IsPacket sites.now.stations bytes.now packet) }
@@ -112,7 +117,7 @@ fn next_packet<H: Host>(
     ensures write_faults { H.write_faults host.new ≡ H.write_faults host.old }
 {
     match records.next(host) {
-        Ok(Some(body)) => Ok(Some(packet_of(alloc, sites, body, records.bytes())?)),
+        Ok(Some(body)) => Ok(Some(packet_of_record(alloc, sites, body, records.bytes())?)),
         Ok(None) => Ok(None),
         Err(RecordsFault::Read) => Err(ReadStop::Fault),
         // A segment ends long before.

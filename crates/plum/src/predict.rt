@@ -1,10 +1,10 @@
 //! Predictions by PLUM, by a scan of all stations.
 
-ghost use Rattle.std.specs.Prelude.{◌≡◌, ◌↔◌, ◌≤◌, ◌&&◌, ◌==◌, length, All, IsTrue, Some, None, IfSome, IfNone, pos, nat_abs, ◌-ℤ◌, ◌+ℤ◌, ◌≤ℤ◌};
+ghost use Rattle.std.specs.Prelude.{◌≡◌, ◌↔◌, ◌≤◌, ◌&&◌, ◌==◌, length, All, IsTrue, Some, None, IfSome, IfNone, IsSomeAnd, ◌⊎◌, pos, nat_abs, ◌-ℤ◌, ◌+ℤ◌, ◌≤ℤ◌};
 ghost use Rattle.plum_base.specs.declared.numbers.Tenths.{Tenths};
 ghost use Rattle.plum_base.specs.Sites.{IsPlace};
 ghost use Rattle.plum_base.specs.Levels.{IsFactor};
-ghost use Rattle.plum.specs.Prediction.{is_in_scale, shown, corrected, IsOnScale, IsNear};
+ghost use Rattle.plum.specs.Prediction.{none_or_on_scale, shown, corrected, IsOnScale, IsNear, IsPrediction};
 
 use plum_base::{Entry, Point, StationNo, StationSite, TargetSite, Tenths};
 
@@ -50,15 +50,15 @@ fn shown(history: &[Entry], station: StationNo) -> Option<Tenths>
 
 /// Whether the entry is one of the station's, with a value on the scale.
 fn is_shown_by(entry: &Entry, station: StationNo) -> bool
-    ensures value { result ≡ ((entry.now.station.0 == station.0) && is_in_scale entry.now.value) }
+    ensures value { result ≡ ((entry.now.station.0 == station.0) && none_or_on_scale entry.now.value) }
     ensures scale { IsTrue result → IfSome entry.now.value IsOnScale }
 {
-    entry.station.0 == station.0 && is_in_scale(entry.value)
+    entry.station.0 == station.0 && none_or_on_scale(entry.value)
 }
 
 /// Whether a value is none or from -10.0 to 22.7.
-fn is_in_scale(value: Option<Tenths>) -> bool
-    ensures value { result ≡ is_in_scale value }
+fn none_or_on_scale(value: Option<Tenths>) -> bool
+    ensures value { result ≡ none_or_on_scale value }
     ensures scale { IsTrue result → IfSome value IsOnScale }
 {
     match value {
@@ -100,6 +100,15 @@ fn moved(value: Tenths, from: Tenths, to: Tenths) -> Tenths
     Tenths(value.0 - from.0 + to.0)
 }
 
+/// The greater of what two stations say; none is below each value.
+fn greater_of(a: Option<Tenths>, b: Option<Tenths>) -> Option<Tenths>
+    ensures one { (result ≡ a) ⊎ (result ≡ b) }
+    ensures first { IfSome a (λ t. IsSomeAnd result (λ r. t.0 ≤ℤ r.0)) }
+    ensures second { IfSome b (λ t. IsSomeAnd result (λ r. t.0 ≤ℤ r.0)) }
+{
+    a.max(b)
+}
+
 /// The prediction at a target over the board after these entries: the greatest of what the stations say.
 pub fn predict(stations: &[StationSite], history: &[Entry], target: &TargetSite) -> Option<Tenths>
     requires few { length stations.now ≤ 4096 }
@@ -107,11 +116,12 @@ pub fn predict(stations: &[StationSite], history: &[Entry], target: &TargetSite)
     requires factors { All (λ s. IsFactor s.factor) stations.now }
     requires target_place { IsPlace target.now.at }
     requires target_factor { IsFactor target.now.factor }
+    ensures { IsPrediction stations.now history.now target.now result }
 {
-    let mut greatest: Option<Tenths> = None;
+    let mut greatest = None;
     for (n, site) in stations.iter().enumerate() {
         let said = said_by(site, StationNo(n as u16), history, target);
-        greatest = greatest.max(said);
+        greatest = greater_of(greatest, said);
     }
     greatest
 }

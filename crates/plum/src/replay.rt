@@ -11,16 +11,17 @@ ghost use Rattle.plum_host.specs.Told.{Appends};
 ghost use Rattle.plum.specs.declared.replay.Stop.TheVariants as stops;
 ghost use Rattle.plum.specs.Bodies.{StopsAt};
 ghost use Rattle.plum.specs.Row.{row_stations};
-ghost use Rattle.plum.specs.Replayed.{AppendsJournal, IsOneSegment};
+ghost use Rattle.plum.specs.Replayed.{AppendsReplay, IsOneSegment};
 ghost use Rattle.plum.specs.Stops.{stop_of_read, stop_of_put};
 
+use crate::area::read_area;
 use crate::built_in::{row_setup, row_sites};
 use crate::history::history_of;
 use crate::packets::{ReadStop, read_packets};
-use crate::predict::predict;
 use crate::text::journal::journal_text;
-use crate::text::lines::{Counts, put_answer, put_mark, put_reading, put_tail, put_totals};
-use plum_base::{Bytes, Entry, NoMemory, Sites};
+use crate::text::lines::Counts;
+use crate::text::output::output_text;
+use plum_base::{Bytes, NoMemory};
 use plum_host::{Host, PutFault, To, WriteRefusal, put_all};
 use std::alloc::Global;
 
@@ -82,29 +83,6 @@ fn open_journal<H: Host>(host: &mut H) -> Result<(), Stop>
     }
 }
 
-/// The output of a capture of one segment: its section, the tail and the totals.
-fn output_text(
-    alloc: Global,
-    sites: &Sites,
-    counts: &Counts,
-    tail: u32,
-    history: &[Entry],
-) -> Result<Bytes, NoMemory> {
-    let mut text = Bytes::new(alloc)?;
-    put_mark(&mut text, 1, counts)?;
-    // The built-in targets are of one area.
-    if let Some(first) = sites.targets().first() {
-        put_reading(&mut text, 1, &first.area, u64::from(counts.kept))?;
-    }
-    for target in sites.targets() {
-        let answer = predict(sites.stations(), history, target);
-        put_answer(&mut text, 1, &target.name, answer)?;
-    }
-    put_tail(&mut text, tail)?;
-    put_totals(&mut text, 1, counts)?;
-    Ok(text)
-}
-
 /// Appends a piece to an output, whole.
 fn put<H: Host>(host: &mut H, file: To, piece: &Bytes) -> Result<(), Stop>
     ensures whole { OnOk result (Appends (H.held host.old file) (H.held host.new file) piece.now) }
@@ -121,8 +99,8 @@ fn put<H: Host>(host: &mut H, file: To, piece: &Bytes) -> Result<(), Stop>
 
 /// Reads the capture whole, and then writes the journal and the output.
 pub fn replay<H: Host>(alloc: Global, host: &mut H) -> Result<(), Stop>
-    ensures journal { OnOk result ((capture : List ℕ) → H.left host.old Capture ≡ Some capture
-        → AppendsJournal capture (H.held host.old Journal) (H.held host.new Journal)) }
+    ensures texts { OnOk result ((capture : List ℕ) → H.left host.old Capture ≡ Some capture
+        → AppendsReplay capture (H.held host.old Journal) (H.held host.new Journal) (H.held host.old Out) (H.held host.new Out)) }
     ensures whole { OnOk result ((capture : List ℕ) → H.left host.old Capture ≡ Some capture → H.left host.new Capture ≡ Some []) }
 
     ensures segment { OnOk result ((capture : List ℕ) → H.left host.old Capture ≡ Some capture
@@ -139,6 +117,11 @@ pub fn replay<H: Host>(alloc: Global, host: &mut H) -> Result<(), Stop>
 {
     let setup = row_setup();
     let sites = row_sites(alloc)?;
+    let (stations, targets) = (sites.stations(), sites.targets());
+    // The built-in targets are of one area.
+    let Some(first) = targets.first() else {
+        unreachable!()
+    };
     open_journal(host)?;
     let segment = read_packets(alloc, &sites, host)?;
     let bodies = segment.packets.len() as u32;
@@ -150,8 +133,9 @@ pub fn replay<H: Host>(alloc: Global, host: &mut H) -> Result<(), Stop>
         repeats: bodies - kept,
         refused: 0,
     };
-    let journal = journal_text(alloc, sites.stations(), &history)?;
-    let output = output_text(alloc, &sites, &counts, segment.tail, &history)?;
+    let reading = read_area(alloc, stations, targets, &history)?;
+    let journal = journal_text(alloc, stations, &history)?;
+    let output = output_text(alloc, &first.area, targets, &counts, &reading, segment.tail)?;
     put(host, To::Journal, &journal)?;
     put(host, To::Out, &output)
 }

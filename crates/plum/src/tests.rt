@@ -1,11 +1,14 @@
 //! Worked captures, as the top call answers them.
 
 use super::*;
+use noting::{FirstWrite, NotingHost};
 use plum_base::Bytes;
 use plum_host::{MemFiles, MemHost, To};
 use std::alloc::Global;
 use std::process::Abort;
 use std::test::Fail;
+
+mod noting;
 
 /// A packet of station 1: its boot, its number, and runs of equal samples along x.
 #[derive(Clone, Copy)]
@@ -117,6 +120,55 @@ fn expect_usage(rt: &impl Abort, alloc: Global, words: &[&str]) -> Result<(), Fa
     assert_eq!(rt; run(alloc, &words, &mut host), Status::Usage);
     assert!(rt; host.held(To::Journal).is_empty() && host.held(To::Out).is_empty());
     assert_eq!(rt; paths_of(alloc, &words)?.capture.as_str(), "");
+    Ok(())
+}
+
+/// Replays a capture of one packet over a host of which one call fails.
+fn expect_fault(
+    rt: &impl Abort,
+    alloc: Global,
+    failing: (u32, u32),
+    status: Status,
+    written: (&str, &str),
+) -> Result<(), Fail> {
+    let memory = host_of(alloc, &[PacketRow(0, 0, &[(1, 10)])], &[])?;
+    let mut host = NotingHost::new(memory, failing.0, failing.1);
+    assert_eq!(rt; run(alloc, &words_of(alloc, &REPLAY)?, &mut host), status);
+    assert_eq!(rt; host.memory.held(To::Journal), written.0.as_bytes());
+    assert_eq!(rt; host.memory.held(To::Out), written.1.as_bytes());
+    Ok(())
+}
+
+#[test]
+fn failing_calls(rt: HostRuntime) -> Result<(), Fail> {
+    let alloc = rt.alloc();
+    let journal = "E 1 1 1 0 0 F -\n";
+    let output = "M 1 1 1 0 0\nR 1 a 1\nP 1 t1 - -\nT 0\nZ 1 1 1 0 0\n";
+    expect_fault(&rt, alloc, (0, 0), Status::Done, (journal, output))?;
+    expect_fault(&rt, alloc, (1, 0), Status::ReadFault, ("", ""))?;
+    expect_fault(&rt, alloc, (2, 0), Status::ReadFault, ("", ""))?;
+    expect_fault(&rt, alloc, (0, 1), Status::WriteFault, ("", ""))?;
+    expect_fault(&rt, alloc, (0, 2), Status::WriteFault, ("", ""))?;
+    expect_fault(&rt, alloc, (0, 3), Status::WriteFault, (journal, ""))
+}
+
+/// The journal is made by an empty piece before the capture is read, and each piece is whole lines.
+#[test]
+fn journal_is_opened_first(rt: HostRuntime) -> Result<(), Fail> {
+    let alloc = rt.alloc();
+    let memory = host_of(alloc, &[PacketRow(0, 0, &[(1, 10)])], &[])?;
+    let mut host = NotingHost::new(memory, 0, 0);
+    assert_eq!(rt;
+        run(alloc, &words_of(alloc, &REPLAY)?, &mut host),
+        Status::Done
+    );
+    let opening = FirstWrite {
+        file: To::Journal,
+        length: 0,
+        reads: 0,
+    };
+    assert_eq!(rt; host.notes.first_write, Some(opening));
+    assert!(rt; host.notes.whole_lines);
     Ok(())
 }
 

@@ -3,4 +3,5 @@
 pub mod class;
 pub mod journal;
 pub mod lines;
+pub mod output;
 pub mod write;

@@ -1,7 +1,7 @@
 //! The journal of a capture of one segment.
 
 ghost use Rattle.std.specs.Prelude.{◌≡◌, IfOk};
-ghost use Rattle.plum.specs.Texts.{code_of_station, journal_text};
+ghost use Rattle.plum.specs.Texts.{code_of_station, entry_lines};
 
 use crate::text::lines::put_entry;
 use plum_base::{Bytes, Entry, NoMemory, StationNo, StationSite};
@@ -23,7 +23,7 @@ pub fn journal_text(
     stations: &[StationSite],
     history: &[Entry],
 ) -> Result<Bytes, NoMemory>
-    ensures { IfOk result (λ text. text ≡ journal_text stations.now 1 1 history.now) }
+    ensures { IfOk result (λ text. text ≡ entry_lines stations.now 1 1 history.now) }
 {
     let mut text = Bytes::new(alloc)?;
     for (before, entry) in history.iter().enumerate() {

@@ -46,20 +46,20 @@ pub fn put_entry(
 
 /// `M m bodies kept repeats refused`
 pub fn put_mark(out: &mut Bytes, m: u32, counts: &Counts) -> Result<(), NoMemory>
-    ensures { OnOk result (out.new ≡ out.old ++ mark_line m counts.now.bodies counts.now.kept counts.now.repeats counts.now.refused) }
+    ensures { OnOk result (out.new ≡ out.old ++ mark_line m counts.now) }
 {
     put_counts(out, b"M", m, counts)
 }
 
 /// `Z segments bodies kept repeats refused`
 pub fn put_totals(out: &mut Bytes, segments: u32, counts: &Counts) -> Result<(), NoMemory>
-    ensures { OnOk result (out.new ≡ out.old ++ totals_line segments counts.now.bodies counts.now.kept counts.now.repeats counts.now.refused) }
+    ensures { OnOk result (out.new ≡ out.old ++ totals_line segments counts.now) }
 {
     put_counts(out, b"Z", segments, counts)
 }
 
 fn put_counts(out: &mut Bytes, kind: &[u8], first: u32, counts: &Counts) -> Result<(), NoMemory>
-    ensures { OnOk result (out.new ≡ out.old ++ counts_line kind.now first counts.now.bodies counts.now.kept counts.now.repeats counts.now.refused) }
+    ensures { OnOk result (out.new ≡ out.old ++ counts_line kind.now first counts.now) }
 {
     let list = [
         number(first),

@@ -1,10 +1,10 @@
-use Rattle.std.proofs.Common.{◌≡◌, take, filter, ◌&&◌, None}
-use Rattle.std.specs.Prelude.{◌==◌, IfSome}
-use Rattle.plum.specs.Prediction.{is_in_scale, last_value, IsOnScale}
+use Rattle.std.proofs.Common.{◌≡◌, take}
+use Rattle.std.specs.Prelude.{IfSome}
+use Rattle.plum.specs.Prediction.{shown, IsOnScale}
 use Rattle.plum.proofs.predict.shown.Given as goal
 
 abbrev pub invariant-loop-entry : goal.invariant-loop-entry
 invariant-loop-entry l = record {
-  value : l.value ≡ last_value None (filter (λ e. (e.station.0 == l.station.0) && is_in_scale e.value) (take l.entry-index l.history));
+  value : l.value ≡ shown (take l.entry-index l.history) l.station.0;
   scale : IfSome l.value IsOnScale;
 }

@@ -1,10 +1,12 @@
-use Rattle.std.proofs.Common.{subst, ◌∙◌, arith}
+use Rattle.std.proofs.Common.{◌≡◌, length, sym, ap, subst, ◌∙◌, arith}
 use Rattle.std.proofs.lemmas.Result.{on_ok_weaker}
 use Rattle.plum_host.specs.declared.host.In.TheVariants.{Capture}
-use Rattle.plum_host.specs.declared.host.To.TheVariants.{Journal}
+use Rattle.plum_host.specs.declared.host.To.TheVariants.{Out, Journal}
 use Rattle.plum_host.specs.Told.{Appends}
 use Rattle.plum.specs.Replayed.{IsOneSegment}
-use Rattle.plum.proofs.Replaying.{length-HoldsKept, appends_text, outputs_differ}
+use Rattle.plum.specs.Row.{row_stations, row_targets}
+use Rattle.plum.specs.Transcript.{ArePredictions}
+use Rattle.plum.proofs.Replaying.{length-HoldsKept, appends_text, outputs_differ, replay_of}
 use Rattle.plum.proofs.replay.replay.Goals as goal
 
 -- no more packets are kept than there are
@@ -29,26 +31,39 @@ overflow_sub-counts g c =
       length-HoldsKept c.in_ok-history.history.items c.in_ok-segment.segment.packets.items c.in_ok-history.ensures.complete,
     )
 
-pub returns-clause-journal : goal.returns-clause-journal
-returns-clause-journal g c =
+-- The two texts are those of the one transcript over the history.
+pub returns-clause-texts : goal.returns-clause-texts
+returns-clause-texts g c =
     on_ok_weaker c.put-2.result (λ whole. λ capture told.
     let segment = c.in_ok-segment.segment in
+    let sites = c.in_ok-sites.ensures in
     let read = c.in_ok-segment.ensures.segment capture (c.open_journal.ensures.inputs Capture ∙ told) in
-    let opened = g.H.Host.held c.open_journal.new.host Journal in
-    let written = subst (λ before. Appends before (g.H.Host.held c.put.new.host Journal) c.in_ok-journal.journal) (c.read_packets.ensures.outputs Journal) c.in_ok-put.ensures.whole in
-    rw (c.put-2.ensures.other_output Journal outputs_differ)
-    (appends_text capture c.in_ok-journal.journal (g.H.Host.held c.args.host.now Journal) opened (g.H.Host.held c.put.new.host Journal) c.open_journal.ensures.nothing written
-    (record {
+    let stations : c.stations-stations.result.now ≡ row_stations = c.stations-stations.ensures.value ∙ sites.0 in
+    let targets : c.targets-targets.result.now ≡ row_targets = c.targets-targets.ensures.value ∙ sites.1 in
+    let opened = g.H.Host.held c.open_journal.new.host in
+    let journal = c.in_ok-journal.journal in
+    let output = c.in_ok-output.output in
+    let written = subst (λ before. Appends before (g.H.Host.held c.put.new.host Journal) journal) (c.read_packets.ensures.outputs Journal) c.in_ok-put.ensures.whole in
+    record {
       setup = c.row_setup-setup.result;
-      packets = segment.packets.items;
-      tail = segment.tail;
-      history = c.in_ok-history.history.items;
       built_in = c.row_setup-setup.ensures;
-      segment = subst (λ stations. IsOneSegment stations capture segment.packets.items segment.tail) c.in_ok-sites.ensures.0 read.0;
-      valid = c.in_ok-history.ensures.valid;
-      complete = c.in_ok-history.ensures.complete;
-      text = cc (c.in_ok-journal.ensures, c.stations.ensures.value, c.deref.ensures.value, c.in_ok-sites.ensures.0);
-    }))) c.put-2.ensures.whole
+      journal = journal;
+      output = output;
+      replay = replay_of c.row_setup-setup.result c.row_setup-setup.ensures capture segment.packets.items segment.tail
+          (subst (λ stations. IsOneSegment stations capture segment.packets.items segment.tail) sites.0 read.0)
+          c.in_ok-history.history.items c.in_ok-reading.reading _ journal output
+          c.in_ok-history.ensures.valid c.in_ok-history.ensures.complete
+          (c.in_ok-reading.ensures.front ∙ ap length c.deref.ensures.value)
+          (subst (λ history. ArePredictions row_stations history row_targets c.in_ok-reading.reading.answers) c.deref.ensures.value
+          (rw (stations, targets) at c.in_ok-reading.ensures.answers))
+          (cc (c.len-bodies.ensures, c.len-kept.ensures))
+          (rw (stations, c.deref-2.ensures.value) at c.in_ok-journal.ensures)
+          (rw targets at c.in_ok-output.ensures);
+      journal_appended = rw (c.put-2.ensures.other_output Journal outputs_differ)
+          (appends_text journal (g.H.Host.held c.args.host.now Journal) (opened Journal) (g.H.Host.held c.put.new.host Journal) c.open_journal.ensures.nothing written);
+      output_appended = subst (λ before. Appends before (g.H.Host.held c.put-2.new.host Out) output)
+          (c.put.ensures.other_output Out (λ same. outputs_differ (sym same)) ∙ c.read_packets.ensures.outputs Out ∙ c.open_journal.ensures.out) whole;
+    }) c.put-2.ensures.whole
 
 pub returns-clause-whole : goal.returns-clause-whole
 returns-clause-whole g c =

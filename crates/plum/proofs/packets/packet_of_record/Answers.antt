@@ -1,5 +1,5 @@
 use Rattle.std.proofs.Common.{inl, inr}
-use Rattle.plum.proofs.packets.packet_of.Goals as goal
+use Rattle.plum.proofs.packets.packet_of_record.Goals as goal
 
 -- the fault that decode answers is the body's first
 pub returns-in-Err-Packet-clause-stop : goal.returns-in-Err-Packet-clause-stop

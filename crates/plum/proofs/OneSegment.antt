@@ -1,0 +1,122 @@
+-- A capture of one segment, and the transcript of its one reading.
+use Rattle.std.proofs.Common.{◌≡◌, ◌≢◌, ℕ, ◌+◌, ◌-◌, ◌<◌, ◌≤◌, zero, suc, false, List, [], ◌∷◌, ◌++◌, length, take, Some, Result, Ok, inl, inr, refl, sym, ap, subst, ◌∙◌, arith, append-nil, append_assoc}
+use Rattle.std.proofs.lemmas.Bool.{cases_Bool, ne_eqb}
+use Rattle.std.proofs.lemmas.List.{length-map, length_push}
+use Rattle.std.proofs.Math.Seq.{take-length}
+use Rattle.std.proofs.lemmas.List.Elements.{All-nil, All-cons}
+use Rattle.std.proofs.lemmas.Slice.Eq.{bytes_eq-Decides}
+use Rattle.std.specs.Prelude.{slice_get}
+use Rattle.std.specs.List.{AllZip, enumerate_from}
+use Rattle.std.specs.Str.{bytes_eq}
+use Rattle.plum_base.specs.declared.answers.Reading.{Reading}
+use Rattle.plum_base.specs.declared.entry.Entry.{Entry}
+use Rattle.plum_base.specs.declared.packet.Packet.{Packet}
+use Rattle.plum_base.specs.declared.packet.PacketFault.{PacketFault}
+use Rattle.plum_base.specs.declared.setup.Setup.{Setup}
+use Rattle.plum_base.specs.declared.sites.StationSite.{StationSite}
+use Rattle.plum_base.specs.Sites.{Lists, areas_of}
+use Rattle.plum_packet.specs.Capture.{mark_body}
+use Rattle.plum_packet.specs.Segments.{segment_bodies, segments_from, segments_of, IsReadSegment, packets_in, refused_in}
+use Rattle.plum.specs.declared.text.lines.Counts.{Counts}
+use Rattle.plum.specs.Bodies.{ArePackets}
+use Rattle.plum.specs.History.{packet_of, IsValidHistory, HoldsKept, kept_packets}
+use Rattle.plum.specs.Texts.{entry_lines, journal_text, quiet_section, sections_of}
+use Rattle.plum.specs.Transcript.{Transcript, journal_of, IsReadingAt, of_lane, targets_of, ArePredictions, IsLegal}
+
+bytes_differ : (xs ys : List ℕ) → (xs ≢ ys) → bytes_eq xs ys ≡ false
+bytes_differ xs ys differ = elim (cases_Bool (bytes_eq xs ys)) [ inl same ↦ absurd (differ ((bytes_eq-Decides xs ys).0 same)) | inr other ↦ other ]
+
+module _ (stations : List StationSite) where
+  -- without a mark, and with room for each body, the open segment takes all
+  segments_from-room : (n : ℕ) (held : List (ℕ × List ℕ)) (bodies : List (List ℕ)) (packets : List Packet) → ArePackets stations bodies packets
+      → length held + length bodies < segment_bodies → segments_from n held bodies ≡ (held ++ enumerate_from n bodies) ∷ []
+  segments_from-room n held [] packets are few = ap (λ segment. segment ∷ []) (sym (append-nil held))
+  segments_from-room n held (body ∷ bodies) [] are few = absurd are
+  segments_from-room n held (body ∷ bodies) (p ∷ ps) are few =
+      let longer = held ++ (n, body) ∷ [] in
+      rw (bytes_differ body mark_body are.0, ne_eqb (length held + 1) segment_bodies (λ full. omega arith))
+      (segments_from-room (n + 1) longer bodies ps are.2 (omega (arith, length_push held (n, body)))
+      ∙ ap (λ segment. segment ∷ []) (append_assoc held ((n, body) ∷ []) (enumerate_from (n + 1) bodies)))
+
+  pub segments_of-one : (bodies : List (List ℕ)) (packets : List Packet) → ArePackets stations bodies packets → length bodies < segment_bodies
+      → segments_of bodies ≡ enumerate_from 1 bodies ∷ []
+  segments_of-one bodies packets are few = segments_from-room 1 [] bodies packets are (omega arith)
+
+-- a segment that holds these packets alone, read from record n on
+abbrev pub all_lawful : ℕ → List Packet → List (ℕ × Result Packet PacketFault)
+all_lawful n [] = []
+all_lawful n (p ∷ ps) = (n, Ok p) ∷ all_lawful (n + 1) ps
+
+pub packets_in-all_lawful : (n : ℕ) (ps : List Packet) → packets_in (all_lawful n ps) ≡ ps
+packets_in-all_lawful n [] = refl
+packets_in-all_lawful n (p ∷ ps) = ap (λ l. p ∷ l) (packets_in-all_lawful (n + 1) ps)
+
+refused_in-all_lawful : (n : ℕ) (ps : List Packet) → refused_in (all_lawful n ps) ≡ []
+refused_in-all_lawful n [] = refl
+refused_in-all_lawful n (p ∷ ps) = refused_in-all_lawful (n + 1) ps
+
+length-all_lawful : (n : ℕ) (ps : List Packet) → length (all_lawful n ps) ≡ length ps
+length-all_lawful n [] = refl
+length-all_lawful n (p ∷ ps) = ap suc (length-all_lawful (n + 1) ps)
+
+-- what such a segment reads as
+IsReadSegment-lawful : (stations : List StationSite) (n : ℕ) (bodies : List (List ℕ)) (packets : List Packet) → ArePackets stations bodies packets
+    → IsReadSegment stations (enumerate_from n bodies) (all_lawful n packets)
+IsReadSegment-lawful stations n [] [] are = tt
+IsReadSegment-lawful stations n [] (p ∷ ps) are = absurd are
+IsReadSegment-lawful stations n (b ∷ bs) [] are = absurd are
+IsReadSegment-lawful stations n (b ∷ bs) (p ∷ ps) are = ((refl, are.1), IsReadSegment-lawful stations (n + 1) bs ps are.2)
+
+pub read_one : (stations : List StationSite) (bodies : List (List ℕ)) (packets : List Packet) → ArePackets stations bodies packets → length bodies < segment_bodies
+    → AllZip (IsReadSegment stations) (segments_of bodies) (all_lawful 1 packets ∷ [])
+read_one stations bodies packets are few =
+    rw (segments_of-one stations bodies packets are few) (IsReadSegment-lawful stations 1 bodies packets are, tt)
+
+-- the transcript of one segment and one area
+abbrev pub one_reading : List Entry → Reading → Transcript
+one_reading history reading = record { parts = history ∷ []; readings = (reading ∷ []) ∷ [] }
+
+-- its one reading is at mark 1 and for the first area
+only_reading : (history : List Entry) (reading other : Reading) (m a : ℕ) → IsReadingAt (one_reading history reading) m a other → (m ≡ 1) × (a ≡ 0) × (other ≡ reading)
+only_reading history reading other m a is = first m (m - 1) a is.of_mark refl is.from_one is.mark is.area
+  where
+    first : (m k a : ℕ) (of_mark : List Reading) → m - 1 ≡ k → 1 ≤ m → slice_get ((reading ∷ []) ∷ []) k ≡ Some of_mark → slice_get of_mark a ≡ Some other
+        → (m ≡ 1) × (a ≡ 0) × (other ≡ reading)
+    first m zero zero of_mark k some mark area = (omega arith, refl, cc)
+    first m zero (suc a) of_mark k some mark area = absurd cc
+    first m (suc k) a of_mark e some mark area = absurd cc
+
+module _ (setup : Setup) (sites : Lists) (history : List Entry) (reading : Reading) (packets : List Packet) (front : reading.front ≡ length history) where
+  -- It is legal where its history is valid and complete, and its answers are the predictions over it.
+  pub legal_one : IsValidHistory setup (length sites.stations) history → HoldsKept history packets → length (areas_of sites.targets) ≡ 1
+      → ((area : List ℕ) → slice_get (areas_of sites.targets) 0 ≡ Some area → ArePredictions sites.stations history (targets_of area sites.targets) reading.answers)
+      → IsLegal setup sites (packets ∷ []) (one_reading history reading)
+  legal_one valid holds one answers = record {
+    valid = subst (IsValidHistory setup (length sites.stations)) (sym (append-nil history)) valid;
+    complete = ((λ lane. ap (of_lane setup.lanes lane) holds), tt);
+    marks = refl;
+    areas = All-cons (λ readings. length readings ≡ length (areas_of sites.targets)) (reading ∷ []) [] (sym one) (All-nil _);
+    bounds = λ m a other is.
+        let only = only_reading history reading other m a is in
+        rw (only.0, only.2) (omega (arith, front, ap length (append-nil history)), omega (arith, front, ap length (append-nil history)));
+    rising = λ m a earlier later is next.
+        let before = only_reading history reading earlier m a is in
+        let after = only_reading history reading later (m + 1) a next in
+        absurd (omega (arith, before.0, after.0));
+    answers = λ m a other area is named.
+        let only = only_reading history reading other m a is in
+        let all : take reading.front (journal_of (one_reading history reading)) ≡ history = rw (front, append-nil history) (take-length history) in
+        rw (only.2, all) (answers area (subst (λ i. slice_get (areas_of sites.targets) i ≡ Some area) only.1 named));
+  }
+
+-- the journal of such a transcript
+pub journal_one : (stations : List StationSite) (history : List Entry) (reading : Reading) → journal_text stations (one_reading history reading) ≡ entry_lines stations 1 1 history
+journal_one stations history reading = append-nil (entry_lines stations 1 1 history)
+
+-- its section
+pub section_one : (history : List Entry) (reading : Reading) (packets : List Packet) (counts : Counts) → HoldsKept history packets
+    → counts ≡ record { bodies = length packets; kept = length history; repeats = length packets - length history; refused = 0 }
+    → sections_of (all_lawful 1 packets ∷ []) ((reading ∷ []) ∷ []) ≡ quiet_section counts reading ∷ []
+section_one history reading packets counts holds is =
+    let kept : length (kept_packets packets) ≡ length history = ap length (sym holds) ∙ length-map history packet_of in
+    rw (packets_in-all_lawful 1 packets, refused_in-all_lawful 1 packets, length-all_lawful 1 packets, kept, is) refl
