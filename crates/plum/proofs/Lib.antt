@@ -7,6 +7,7 @@ pub mod Judged
 pub mod Stations
 pub mod Histories
 pub mod Predictions
+pub mod Showing
 pub mod AnswerLines
 pub mod Stops
 pub mod OneSegment

@@ -20,7 +20,7 @@ use Rattle.plum_packet.specs.Segments.{segment_bodies, segments_from, segments_o
 use Rattle.plum.specs.declared.text.lines.Counts.{Counts}
 use Rattle.plum.specs.Bodies.{ArePackets}
 use Rattle.plum.specs.History.{packet_of, IsValidHistory, HoldsKept, kept_packets}
-use Rattle.plum.specs.Texts.{entry_lines, journal_text, quiet_section, sections_of}
+use Rattle.plum.specs.Texts.{entry_lines, journal_text, one_area, sections_of}
 use Rattle.plum.specs.Transcript.{Transcript, journal_of, IsReadingAt, of_lane, targets_of, ArePredictions, IsLegal}
 
 bytes_differ : (xs ys : List ℕ) → (xs ≢ ys) → bytes_eq xs ys ≡ false
@@ -116,7 +116,7 @@ journal_one stations history reading = append-nil (entry_lines stations 1 1 hist
 -- its section
 pub section_one : (history : List Entry) (reading : Reading) (packets : List Packet) (counts : Counts) → HoldsKept history packets
     → counts ≡ record { bodies = length packets; kept = length history; repeats = length packets - length history; refused = 0 }
-    → sections_of (all_lawful 1 packets ∷ []) ((reading ∷ []) ∷ []) ≡ quiet_section counts reading ∷ []
+    → sections_of (all_lawful 1 packets ∷ []) ((reading ∷ []) ∷ []) ≡ one_area counts reading ∷ []
 section_one history reading packets counts holds is =
     let kept : length (kept_packets packets) ≡ length history = ap length (sym holds) ∙ length-map history packet_of in
     rw (packets_in-all_lawful 1 packets, refused_in-all_lawful 1 packets, length-all_lawful 1 packets, kept, is) refl

@@ -13,8 +13,8 @@ use Rattle.plum_engine.specs.Keys.{is_kept}
 use Rattle.plum.specs.declared.text.lines.Counts.{Counts}
 use Rattle.plum.specs.History.{packet_of, of_station, kept_packets_after, HoldsKept, IsValidHistory}
 use Rattle.plum.specs.Replayed.{IsOneSegment, IsReplay}
-use Rattle.plum.specs.Row.{IsRowSetup, row_stations, row_targets, row_sites}
-use Rattle.plum.specs.Texts.{entry_lines, quiet_section, sections_of, output_text}
+use Rattle.plum.specs.BuiltIn.{IsBuiltInSetup, built_in_stations, built_in_targets, built_in_sites}
+use Rattle.plum.specs.Texts.{entry_lines, one_area, sections_of, output_text}
 use Rattle.plum.specs.Transcript.{targets_of, ArePredictions, IsLegal}
 use Rattle.plum.proofs.OneSegment.{all_lawful, packets_in-all_lawful, read_one, one_reading, legal_one, journal_one, section_one}
 
@@ -38,32 +38,32 @@ appends_text text None opened after h k = tt
 appends_text text (Some held) opened after h k =
     (subst (λ o. Appends o after text) h k) ∙ ap (λ front. Some (front ++ text)) (append-nil held)
 
-module _ (setup : Setup) (built_in : IsRowSetup setup) (capture : List ℕ) (packets : List Packet) (tail : ℕ) (segment : IsOneSegment row_stations capture packets tail) where
+module _ (setup : Setup) (built_in : IsBuiltInSetup setup) (capture : List ℕ) (packets : List Packet) (tail : ℕ) (segment : IsOneSegment built_in_stations capture packets tail) where
   -- The answers for the one area are those for all targets.
-  of_the_area : (history : List Entry) (reading : Reading) → ArePredictions row_stations history row_targets reading.answers → (area : List ℕ)
-      → slice_get (areas_of row_targets) 0 ≡ Some area → ArePredictions row_stations history (targets_of area row_targets) reading.answers
+  of_the_area : (history : List Entry) (reading : Reading) → ArePredictions built_in_stations history built_in_targets reading.answers → (area : List ℕ)
+      → slice_get (areas_of built_in_targets) 0 ≡ Some area → ArePredictions built_in_stations history (targets_of area built_in_targets) reading.answers
   of_the_area history reading are area named =
       let is : 97 ∷ [] ≡ area = cc in
-      subst (λ name. ArePredictions row_stations history (targets_of name row_targets) reading.answers) is are
+      subst (λ name. ArePredictions built_in_stations history (targets_of name built_in_targets) reading.answers) is are
 
   -- The lines of a valid and complete history, and the output of a reading over it, make a replay.
   pub replay_of : (history : List Entry) (reading : Reading) (counts : Counts) (journal output : List ℕ) → IsValidHistory setup 1 history → HoldsKept history packets
-      → reading.front ≡ length history → ArePredictions row_stations history row_targets reading.answers
+      → reading.front ≡ length history → ArePredictions built_in_stations history built_in_targets reading.answers
       → counts ≡ record { bodies = length packets; kept = length history; repeats = length packets - length history; refused = 0 }
-      → journal ≡ entry_lines row_stations 1 1 history → output ≡ output_text row_targets (quiet_section counts reading ∷ []) tail
-      → IsReplay setup row_sites capture journal output
+      → journal ≡ entry_lines built_in_stations 1 1 history → output ≡ output_text built_in_targets (one_area counts reading ∷ []) tail
+      → IsReplay setup built_in_sites capture journal output
   replay_of history reading counts journal output valid holds front are counted journal_is output_is = record {
     bodies = segment.bodies;
     rest = segment.rest;
     reading = segment.reading;
     segments = all_lawful 1 packets ∷ [];
-    read = read_one row_stations segment.bodies packets segment.decoded segment.few;
+    read = read_one built_in_stations segment.bodies packets segment.decoded segment.few;
     transcript = one_reading history reading;
-    legal = subst (λ ps. IsLegal setup row_sites (ps ∷ []) (one_reading history reading)) (sym (packets_in-all_lawful 1 packets))
-        (legal_one setup row_sites history reading packets front valid holds refl (of_the_area history reading are));
-    journal_is = journal_is ∙ sym (journal_one row_stations history reading);
-    output_is = output_is ∙ ap (λ sections. output_text row_targets sections tail) (sym (section_one history reading packets counts holds counted))
-        ∙ ap (output_text row_targets (sections_of (all_lawful 1 packets ∷ []) ((reading ∷ []) ∷ []))) segment.tail_is;
+    legal = subst (λ ps. IsLegal setup built_in_sites (ps ∷ []) (one_reading history reading)) (sym (packets_in-all_lawful 1 packets))
+        (legal_one setup built_in_sites history reading packets front valid holds refl (of_the_area history reading are));
+    journal_is = journal_is ∙ sym (journal_one built_in_stations history reading);
+    output_is = output_is ∙ ap (λ sections. output_text built_in_targets sections tail) (sym (section_one history reading packets counts holds counted))
+        ∙ ap (output_text built_in_targets (sections_of (all_lawful 1 packets ∷ []) ((reading ∷ []) ∷ []))) segment.tail_is;
   }
 
 pub outputs_differ : Journal ≡ Out → ⊥

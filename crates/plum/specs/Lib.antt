@@ -9,7 +9,7 @@ pub mod Lines
 pub mod Fields
 pub mod Transcript
 pub mod Texts
-pub mod Row
+pub mod BuiltIn
 pub mod Replayed
 pub mod Status
 pub mod Stops

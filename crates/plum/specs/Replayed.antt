@@ -12,7 +12,7 @@ use Rattle.plum_packet.specs.Segments.{segment_bodies, segments_of, IsReadSegmen
 use Rattle.plum.specs.Bodies.{ArePackets}
 use Rattle.plum.specs.Transcript.{Transcript, IsLegal}
 use Rattle.plum.specs.Texts.{journal_text, output_text, sections_of}
-use Rattle.plum.specs.Row.{IsRowSetup, row_sites}
+use Rattle.plum.specs.BuiltIn.{IsBuiltInSetup, built_in_sites}
 
 -- The capture is the records of these packets, and a tail.
 pub record IsOneSegment (stations : List StationSite) (capture : List ℕ) (packets : List Packet) (tail : ℕ) : Type 0 where
@@ -39,9 +39,9 @@ pub record IsReplay (setup : Setup) (sites : Lists) (capture journal output : Li
 -- output held.
 pub record AppendsReplay (capture : List ℕ) (journal_before journal_after out_before out_after : Option (List ℕ)) : Type 0 where
   pub setup : Setup
-  pub built_in : IsRowSetup setup
+  pub built_in : IsBuiltInSetup setup
   pub journal : List ℕ
   pub output : List ℕ
-  pub replay : IsReplay setup row_sites capture journal output
+  pub replay : IsReplay setup built_in_sites capture journal output
   pub journal_appended : Appends journal_before journal_after journal
   pub output_appended : Appends out_before out_after output

@@ -53,15 +53,23 @@ pub record Section : Type 0 where
   pub refused : List (ℕ × PacketFault)
   pub readings : List Reading
 
--- a section without a refused body, of one area
-abbrev pub quiet_section : Counts → Reading → Section
-quiet_section counts reading = record { counts = counts; refused = []; readings = reading ∷ [] }
+-- the section of a segment, read, of which these packets are kept, with the readings at its mark
+abbrev pub section_of : List (ℕ × Result Packet PacketFault) → List Packet → List Reading → Section
+section_of segment kept readings = record { counts = counts_of segment kept; refused = refused_in segment; readings = readings }
+
+-- one section for each segment
+abbrev pub sections_from : List (List (ℕ × Result Packet PacketFault)) → List (List Packet) → List (List Reading) → List Section
+sections_from (segment ∷ segments) (kept ∷ more_kept) (readings ∷ more_readings) =
+    section_of segment kept readings ∷ sections_from segments more_kept more_readings
+sections_from segments kept readings = []
 
 -- the sections of these segments, read, with the readings at their marks
 abbrev pub sections_of : List (List (ℕ × Result Packet PacketFault)) → List (List Reading) → List Section
-sections_of segments readings =
-    map (λ s. record { counts = counts_of s.0.0 s.0.1; refused = refused_in s.0.0; readings = s.1 })
-    (zip (zip segments (kept_in_segments (map packets_in segments))) readings)
+sections_of segments readings = sections_from segments (kept_in_segments (map packets_in segments)) readings
+
+-- the section of a segment without a refused body, of one area
+abbrev pub one_area : Counts → Reading → Section
+one_area counts reading = record { counts = counts; refused = []; readings = reading ∷ [] }
 
 -- the answers of a reading: a line for each target of the area
 abbrev pub answer_lines : ℕ → List TargetSite → List (Option Tenths) → List ℕ
@@ -71,7 +79,7 @@ answer_lines m targets answers = flat_map (λ a. answer_line m a.0.name a.1) (zi
 abbrev pub reading_lines : ℕ → List ℕ → List TargetSite → Reading → List ℕ
 reading_lines m area targets reading = reading_line m area reading.front ++ answer_lines m targets reading.answers
 
--- the section of mark m; a single reading never raises an alert
+-- the section of mark m; at this stage there are no alerts
 abbrev pub section_text : List TargetSite → ℕ → Section → List ℕ
 section_text targets m s =
     mark_line m s.counts ++ flat_map (λ r. refused_line r.0 r.1) s.refused

@@ -1,7 +1,7 @@
 //! The built-in setup, station and target.
 
 ghost use Rattle.std.specs.Prelude.{◌≡◌, IfOk};
-ghost use Rattle.plum.specs.Row.{IsRowSetup, row_stations, row_targets};
+ghost use Rattle.plum.specs.BuiltIn.{IsBuiltInSetup, built_in_stations, built_in_targets};
 
 use arrayvec::ArrayVec;
 use plum_base::{
@@ -11,8 +11,8 @@ use plum_base::{
 use std::alloc::Global;
 
 /// A setup that passes its input through, with the thresholds of 10, 20 and 30 units.
-pub fn row_setup() -> Setup
-    ensures { IsRowSetup result }
+pub fn built_in_setup() -> Setup
+    ensures { IsBuiltInSetup result }
 {
     let stage = Stage {
         b0: 2,
@@ -49,8 +49,8 @@ pub fn row_setup() -> Setup
 }
 
 /// One station of code 1 and one target `t1` in the area `a`, both at (0, 0) and without factors.
-pub fn row_sites(alloc: Global) -> Result<Sites, NoMemory>
-    ensures { IfOk result (λ sites. (sites.stations ≡ row_stations) × (sites.targets ≡ row_targets)) }
+pub fn built_in_sites(alloc: Global) -> Result<Sites, NoMemory>
+    ensures { IfOk result (λ sites. (sites.stations ≡ built_in_stations) × (sites.targets ≡ built_in_targets)) }
 {
     let at = Point { x: 0, y: 0 };
     let factor = Tenths(0);

@@ -15,6 +15,7 @@ mod text;
 pub use job::paths_of;
 use plum_base::NoMemory;
 use plum_host::StdHost;
+pub use predict::station_shows_its_value;
 pub use run::run;
 pub use status::{Status, status_number, status_text};
 use std::env;

@@ -1,9 +1,13 @@
 //! Predictions by PLUM, by a scan of all stations.
 
-ghost use Rattle.std.specs.Prelude.{◌≡◌, ◌↔◌, ◌≤◌, ◌&&◌, ◌==◌, length, All, IsTrue, Some, None, IfSome, IfNone, IsSomeAnd, ◌⊎◌, pos, nat_abs, ◌-ℤ◌, ◌+ℤ◌, ◌≤ℤ◌};
+ghost use Rattle.std.specs.Prelude.{ℕ, List, ◌≡◌, ◌↔◌, ◌≤◌, ◌&&◌, ◌==◌, length, All, IsTrue, Some, None, IfSome, IfNone, IsSomeAnd, ◌⊎◌, pos, nat_abs, ◌-ℤ◌, ◌+ℤ◌, ◌≤ℤ◌};
+ghost use Rattle.plum_base.specs.declared.entry.Entry.{Entry};
 ghost use Rattle.plum_base.specs.declared.numbers.Tenths.{Tenths};
+ghost use Rattle.plum_base.specs.declared.setup.Setup.{Setup};
 ghost use Rattle.plum_base.specs.Sites.{IsPlace};
-ghost use Rattle.plum_base.specs.Levels.{IsFactor};
+ghost use Rattle.plum_base.specs.Levels.{IsFactor, IsLevelTable};
+ghost use Rattle.plum_engine.specs.Engine.{IsValueOf};
+ghost use Rattle.plum.specs.History.{packets_of, IsValidHistory};
 ghost use Rattle.plum.specs.Prediction.{none_or_on_scale, shown, corrected, IsOnScale, IsNear, IsPrediction};
 
 use plum_base::{Entry, Point, StationNo, StationSite, TargetSite, Tenths};
@@ -125,3 +129,10 @@ pub fn predict(stations: &[StationSite], history: &[Entry], target: &TargetSite)
     }
     greatest
 }
+
+/// A law: what a station shows in a valid history is its value there, the plain function of its packets since its last
+/// gap.
+pub fn station_shows_its_value()
+    ensures { (setup : Setup) (stations s : ℕ) (history : List Entry) → IsLevelTable setup.levels
+        → IsValidHistory setup stations history → IsValueOf setup.gain setup.levels (packets_of s history) (shown history s) }
+{}

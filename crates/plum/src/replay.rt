@@ -10,12 +10,12 @@ ghost use Rattle.plum_host.specs.Faults.{HasRisen};
 ghost use Rattle.plum_host.specs.Told.{Appends};
 ghost use Rattle.plum.specs.declared.replay.Stop.TheVariants as stops;
 ghost use Rattle.plum.specs.Bodies.{StopsAt};
-ghost use Rattle.plum.specs.Row.{row_stations};
+ghost use Rattle.plum.specs.BuiltIn.{built_in_stations};
 ghost use Rattle.plum.specs.Replayed.{AppendsReplay, IsOneSegment};
 ghost use Rattle.plum.specs.Stops.{stop_of_read, stop_of_put};
 
 use crate::area::read_area;
-use crate::built_in::{row_setup, row_sites};
+use crate::built_in::{built_in_setup, built_in_sites};
 use crate::history::history_of;
 use crate::packets::{ReadStop, read_packets};
 use crate::text::journal::journal_text;
@@ -104,19 +104,19 @@ pub fn replay<H: Host>(alloc: Global, host: &mut H) -> Result<(), Stop>
     ensures whole { OnOk result ((capture : List ℕ) → H.left host.old Capture ≡ Some capture → H.left host.new Capture ≡ Some []) }
 
     ensures segment { OnOk result ((capture : List ℕ) → H.left host.old Capture ≡ Some capture
-        → (packets : List Packet) × (tail : ℕ) × IsOneSegment row_stations capture packets tail) }
+        → (packets : List Packet) × (tail : ℕ) × IsOneSegment built_in_stations capture packets tail) }
 
     ensures read { IsErrOf result Stop.Read → HasRisen (H.read_faults host.old) (H.read_faults host.new) }
     ensures write { IsErrOf result Stop.Write → HasRisen (H.write_faults host.old) (H.write_faults host.new) }
     ensures stop { IfErr result (λ stop. (n : ℕ) → stop ≡ Stop.NotYet n → (capture : List ℕ)
-        → H.left host.old Capture ≡ Some capture → StopsAt row_stations capture n) }
+        → H.left host.old Capture ≡ Some capture → StopsAt built_in_stations capture n) }
 
     ensures other_inputs { (other : In) → other ≢ Capture → H.left host.new other ≡ H.left host.old other }
     ensures read_faults { H.read_faults host.old ≤ H.read_faults host.new }
     ensures write_faults { H.write_faults host.old ≤ H.write_faults host.new }
 {
-    let setup = row_setup();
-    let sites = row_sites(alloc)?;
+    let setup = built_in_setup();
+    let sites = built_in_sites(alloc)?;
     let (stations, targets) = (sites.stations(), sites.targets());
     // The built-in targets are of one area.
     let Some(first) = targets.first() else {

@@ -10,7 +10,7 @@ ghost use Rattle.plum_host.specs.Faults.{HasRisen};
 ghost use Rattle.plum.specs.Bodies.{StopsAt};
 ghost use Rattle.plum.specs.Job.{job_of};
 ghost use Rattle.plum.specs.Replayed.{AppendsReplay, IsOneSegment};
-ghost use Rattle.plum.specs.Row.{row_stations};
+ghost use Rattle.plum.specs.BuiltIn.{built_in_stations};
 
 use crate::job::read_words;
 use crate::replay::{Stop, replay};
@@ -40,21 +40,21 @@ pub fn run<H: Host>(alloc: Global, words: &[String], host: &mut H) -> Status
     ensures headline { result ≡ Status.Done → (capture : List ℕ) → H.left host.old Capture ≡ Some capture
         → AppendsReplay capture (H.held host.old Journal) (H.held host.new Journal) (H.held host.old Out) (H.held host.new Out) }
     ensures segment { result ≡ Status.Done → (capture : List ℕ) → H.left host.old Capture ≡ Some capture
-        → (packets : List Packet) × (tail : ℕ) × IsOneSegment row_stations capture packets tail }
+        → (packets : List Packet) × (tail : ℕ) × IsOneSegment built_in_stations capture packets tail }
     ensures whole { result ≡ Status.Done → (capture : List ℕ) → H.left host.old Capture ≡ Some capture
         → H.left host.new Capture ≡ Some [] }
 
     // A record that is a mark, no packet, or the last that a segment holds.
     ensures not_yet { (n : ℕ) → result ≡ Status.NotYet n → (capture : List ℕ) → H.left host.old Capture ≡ Some capture
-        → StopsAt row_stations capture n }
+        → StopsAt built_in_stations capture n }
 
     // A record at which the capture stops is told, and no other. Nothing but a fault, want of memory or wrong words can
     // stand in its place.
-    ensures stopped { (capture : List ℕ) (n : ℕ) → H.left host.old Capture ≡ Some capture → StopsAt row_stations capture n
+    ensures stopped { (capture : List ℕ) (n : ℕ) → H.left host.old Capture ≡ Some capture → StopsAt built_in_stations capture n
         → (result ≢ Status.Done) × ((m : ℕ) → result ≡ Status.NotYet m → m ≡ n) }
     // A capture of one segment is never told to stop.
     ensures one_segment { (capture : List ℕ) (packets : List Packet) (tail : ℕ) → H.left host.old Capture ≡ Some capture
-        → IsOneSegment row_stations capture packets tail → (n : ℕ) → result ≢ Status.NotYet n }
+        → IsOneSegment built_in_stations capture packets tail → (n : ℕ) → result ≢ Status.NotYet n }
     // With lawful words and no fault the work is done, or the record is told at which it is not, or memory is short.
     ensures complete { job_of (map string_bytes words.now) ≢ None → ¬ HasRisen (H.read_faults host.old) (H.read_faults host.new)
         → ¬ HasRisen (H.write_faults host.old) (H.write_faults host.new)

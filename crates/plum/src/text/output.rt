@@ -2,7 +2,7 @@
 
 ghost use Rattle.std.specs.Prelude.{◌≡◌, ◌∷◌, [], ◌++◌, OnOk, IfOk};
 ghost use Rattle.plum_base.specs.Sites.{areas_of};
-ghost use Rattle.plum.specs.Texts.{answer_lines, reading_lines, output_text, quiet_section};
+ghost use Rattle.plum.specs.Texts.{answer_lines, reading_lines, output_text, one_area};
 ghost use Rattle.plum.specs.Transcript.{targets_of};
 
 use crate::text::lines::{Counts, put_answer, put_mark, put_reading, put_tail, put_totals};
@@ -49,7 +49,7 @@ pub fn output_text(
 ) -> Result<Bytes, NoMemory>
     requires area { areas_of targets.now ≡ area.now ∷ [] }
     requires whole { targets_of area.now targets.now ≡ targets.now }
-    ensures { IfOk result (λ text. text ≡ output_text targets.now (quiet_section counts.now reading.now ∷ []) tail) }
+    ensures { IfOk result (λ text. text ≡ output_text targets.now (one_area counts.now reading.now ∷ []) tail) }
 {
     let mut text = Bytes::new(alloc)?;
     put_mark(&mut text, 1, counts)?;

@@ -4,7 +4,7 @@ use Rattle.plum_host.specs.declared.host.In.TheVariants.{Capture}
 use Rattle.plum_host.specs.declared.host.To.TheVariants.{Out, Journal}
 use Rattle.plum_host.specs.Told.{Appends}
 use Rattle.plum.specs.Replayed.{IsOneSegment}
-use Rattle.plum.specs.Row.{row_stations, row_targets}
+use Rattle.plum.specs.BuiltIn.{built_in_stations, built_in_targets}
 use Rattle.plum.specs.Transcript.{ArePredictions}
 use Rattle.plum.proofs.Replaying.{length-HoldsKept, appends_text, outputs_differ, replay_of}
 use Rattle.plum.proofs.replay.replay.Goals as goal
@@ -38,23 +38,23 @@ returns-clause-texts g c =
     let segment = c.in_ok-segment.segment in
     let sites = c.in_ok-sites.ensures in
     let read = c.in_ok-segment.ensures.segment capture (c.open_journal.ensures.inputs Capture ∙ told) in
-    let stations : c.stations-stations.result.now ≡ row_stations = c.stations-stations.ensures.value ∙ sites.0 in
-    let targets : c.targets-targets.result.now ≡ row_targets = c.targets-targets.ensures.value ∙ sites.1 in
+    let stations : c.stations-stations.result.now ≡ built_in_stations = c.stations-stations.ensures.value ∙ sites.0 in
+    let targets : c.targets-targets.result.now ≡ built_in_targets = c.targets-targets.ensures.value ∙ sites.1 in
     let opened = g.H.Host.held c.open_journal.new.host in
     let journal = c.in_ok-journal.journal in
     let output = c.in_ok-output.output in
     let written = subst (λ before. Appends before (g.H.Host.held c.put.new.host Journal) journal) (c.read_packets.ensures.outputs Journal) c.in_ok-put.ensures.whole in
     record {
-      setup = c.row_setup-setup.result;
-      built_in = c.row_setup-setup.ensures;
+      setup = c.built_in_setup-setup.result;
+      built_in = c.built_in_setup-setup.ensures;
       journal = journal;
       output = output;
-      replay = replay_of c.row_setup-setup.result c.row_setup-setup.ensures capture segment.packets.items segment.tail
+      replay = replay_of c.built_in_setup-setup.result c.built_in_setup-setup.ensures capture segment.packets.items segment.tail
           (subst (λ stations. IsOneSegment stations capture segment.packets.items segment.tail) sites.0 read.0)
           c.in_ok-history.history.items c.in_ok-reading.reading _ journal output
           c.in_ok-history.ensures.valid c.in_ok-history.ensures.complete
           (c.in_ok-reading.ensures.front ∙ ap length c.deref.ensures.value)
-          (subst (λ history. ArePredictions row_stations history row_targets c.in_ok-reading.reading.answers) c.deref.ensures.value
+          (subst (λ history. ArePredictions built_in_stations history built_in_targets c.in_ok-reading.reading.answers) c.deref.ensures.value
           (rw (stations, targets) at c.in_ok-reading.ensures.answers))
           (cc (c.len-bodies.ensures, c.len-kept.ensures))
           (rw (stations, c.deref-2.ensures.value) at c.in_ok-journal.ensures)

@@ -8,26 +8,26 @@ use Rattle.plum_base.specs.Levels.{Table}
 use Rattle.plum_base.specs.Sites.{Lists}
 use Rattle.plum_engine.specs.Engine.{pass_through}
 
--- from the second tenth of class 2 on, at the amplitudes 0, 10, 20 and 30
-abbrev pub row_table : Table
-row_table = record { thresholds = 0 ∷ 100 ∷ 400 ∷ 900 ∷ []; base = record { 0 = pos 20 } }
+-- 2.0 from the amplitude 0 on, 2.1 from 10, 2.2 from 20 and 2.3 from 30
+abbrev pub built_in_table : Table
+built_in_table = record { thresholds = 0 ∷ 100 ∷ 400 ∷ 900 ∷ []; base = record { 0 = pos 20 } }
 
-pub record IsRowSetup (setup : Setup) : Type 0 where
+pub record IsBuiltInSetup (setup : Setup) : Type 0 where
   pub cascade : setup.cascade ≡ pass_through
   pub gain : setup.gain ≡ record { g = 1; h = 0 }
-  pub levels : setup.levels ≡ row_table
+  pub levels : setup.levels ≡ built_in_table
   pub rules : setup.rules ≡ record { raise = C4; cancel = C3; calm = 2 }
   pub lanes : setup.lanes ≡ 1
   pub queue : setup.queue ≡ 16
 
 -- code 1 at (0, 0), with no factor
-abbrev pub row_stations : List StationSite
-row_stations = record { code = 1; at = record { x = pos 0; y = pos 0 }; factor = record { 0 = pos 0 } } ∷ []
+abbrev pub built_in_stations : List StationSite
+built_in_stations = record { code = 1; at = record { x = pos 0; y = pos 0 }; factor = record { 0 = pos 0 } } ∷ []
 
 -- `t1` in the area `a` at (0, 0), with no factor
-abbrev pub row_targets : List TargetSite
-row_targets =
+abbrev pub built_in_targets : List TargetSite
+built_in_targets =
     record { name = 116 ∷ 49 ∷ []; area = 97 ∷ []; at = record { x = pos 0; y = pos 0 }; factor = record { 0 = pos 0 } } ∷ []
 
-abbrev pub row_sites : Lists
-row_sites = record { stations = row_stations; targets = row_targets }
+abbrev pub built_in_sites : Lists
+built_in_sites = record { stations = built_in_stations; targets = built_in_targets }
