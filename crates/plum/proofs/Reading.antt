@@ -4,11 +4,11 @@ use Rattle.plum_base.specs.declared.sites.StationSite.{StationSite}
 use Rattle.plum_base.specs.declared.packet.Packet.{Packet}
 use Rattle.plum_base.specs.Sites.{HasCode}
 use Rattle.plum_packet.specs.declared.records.Phase.TheVariants.{Reading}
-use Rattle.plum_packet.specs.Capture.{mark_body}
+use Rattle.plum_packet.specs.Capture.{mark_body, HasRecord}
 use Rattle.plum_base.specs.declared.packet.PacketFault.{PacketFault}
 use Rattle.plum_packet.specs.Body.{IsPacket, IsFirstFault}
 use Rattle.plum_packet.specs.Records.{Place, StandsAt}
-use Rattle.plum.specs.Bodies.{segment_bodies, ArePackets, StopsAt}
+use Rattle.plum.specs.Bodies.{segment_bodies, ArePackets, StopsAt, IsWithinSegment}
 
 -- the reader gave as many records as there are packets, each of a listed station
 pub record IsReading (stations : List StationSite) (records : Place) (packets : List Packet) : Type 0 where
@@ -52,6 +52,23 @@ stops_at stations capture bodies packets old new left after n stood are few numb
   before = are;
   few = subst (λ k. k < segment_bodies) stood.count few;
   stops = stops;
+}
+
+-- where a read failed, before another record was whole
+pub within_segment : (stations : List StationSite) (capture : List ℕ) (bodies : List (List ℕ)) (packets : List Packet) (old new : Place) (left after : Option (List ℕ))
+    → StandsAt capture bodies old left → ArePackets stations bodies packets → old.given < segment_bodies
+    → StandsAt capture bodies new after → ¬ HasRecord new.ahead → IsWithinSegment stations capture after
+within_segment stations capture bodies packets old new left after stood are few stands none = record {
+  bodies = bodies;
+  packets = packets;
+  ahead = new.ahead;
+  rest = stands.rest;
+  told = stands.told;
+  spelled = stands.spelled;
+  lengths = stands.lengths;
+  taken = are;
+  few = subst (λ k. k < segment_bodies) stood.count few;
+  no_more = none;
 }
 
 -- a station that has a code is listed

@@ -7,11 +7,11 @@ ghost use Rattle.plum_host.specs.declared.host.In.TheVariants.{Capture};
 ghost use Rattle.plum_host.specs.declared.host.To.{To};
 ghost use Rattle.plum_host.specs.Faults.{HasRisen};
 ghost use Rattle.plum_packet.specs.declared.records.Phase.TheVariants.{Reading, Ended};
-ghost use Rattle.plum_packet.specs.Capture.{mark_body, IsCapture};
+ghost use Rattle.plum_packet.specs.Capture.{mark_body, HasRecord, IsCapture};
 ghost use Rattle.plum_packet.specs.Records.{StandsAt};
 ghost use Rattle.plum_packet.specs.Body.{IsFirstFault, IsPacket};
 ghost use Rattle.plum.specs.declared.packets.ReadStop.TheVariants as stops;
-ghost use Rattle.plum.specs.Bodies.{segment_bodies, StopsAt};
+ghost use Rattle.plum.specs.Bodies.{segment_bodies, StopsAt, IsWithinSegment};
 ghost use Rattle.plum.specs.Replayed.{IsOneSegment};
 
 use plum_base::{NoMemory, Packet, Sites};
@@ -106,6 +106,9 @@ fn next_packet<H: Host>(
         → IsCapture capture bodies records.new.ahead × (H.left host.new Capture ≡ Some [])))) }
 
     ensures fault { IsErrOf result ReadStop.Fault → HasRisen (H.read_faults host.old) (H.read_faults host.new) }
+    ensures fault_place { IsErrOf result ReadStop.Fault → (¬ HasRecord records.new.ahead)
+        × ((capture : List ℕ) (bodies : List (List ℕ)) → StandsAt capture bodies records.old (H.left host.old Capture)
+        → StandsAt capture bodies records.new (H.left host.new Capture)) }
     ensures stop { IfErr result (λ stop. (n : ℕ) → stop ≡ ReadStop.NotYet n → (n ≡ records.old.given + 1)
         × ((records.new.last ≡ mark_body) ⊎ (((fault : PacketFault) × IsFirstFault sites.now.stations records.new.last fault) ⊎ (n ≡ segment_bodies)))
         × ((capture : List ℕ) (bodies : List (List ℕ)) → StandsAt capture bodies records.old (H.left host.old Capture)
@@ -137,6 +140,8 @@ pub fn read_packets<H: Host>(
     ensures listed { IfOk result (λ segment. All (λ p. p.station.0 < length sites.now.stations) segment.packets.items) }
 
     ensures fault { IsErrOf result ReadStop.Fault → HasRisen (H.read_faults host.old) (H.read_faults host.new) }
+    ensures fault_place { IsErrOf result ReadStop.Fault → (capture : List ℕ) → H.left host.old Capture ≡ Some capture
+        → IsWithinSegment sites.now.stations capture (H.left host.new Capture) }
     ensures stop { IfErr result (λ stop. (n : ℕ) → stop ≡ ReadStop.NotYet n → (capture : List ℕ)
         → H.left host.old Capture ≡ Some capture → StopsAt sites.now.stations capture n) }
 

@@ -9,7 +9,7 @@ ghost use Rattle.plum_host.specs.declared.host.To.TheVariants.{Out, Journal};
 ghost use Rattle.plum_host.specs.Faults.{HasRisen};
 ghost use Rattle.plum_host.specs.Told.{Appends};
 ghost use Rattle.plum.specs.declared.replay.Stop.TheVariants as stops;
-ghost use Rattle.plum.specs.Bodies.{StopsAt};
+ghost use Rattle.plum.specs.Bodies.{StopsAt, IsWithinSegment};
 ghost use Rattle.plum.specs.BuiltIn.{built_in_stations};
 ghost use Rattle.plum.specs.Replayed.{AppendsReplay, IsOneSegment};
 ghost use Rattle.plum.specs.Stops.{stop_of_read, stop_of_put};
@@ -108,6 +108,11 @@ pub fn replay<H: Host>(alloc: Global, host: &mut H) -> Result<(), Stop>
 
     ensures read { IsErrOf result Stop.Read → HasRisen (H.read_faults host.old) (H.read_faults host.new) }
     ensures write { IsErrOf result Stop.Write → HasRisen (H.write_faults host.old) (H.write_faults host.new) }
+    ensures read_place { IsErrOf result Stop.Read → (capture : List ℕ) → H.left host.old Capture ≡ Some capture
+        → IsWithinSegment built_in_stations capture (H.left host.new Capture) }
+    ensures write_place { IsErrOf result Stop.Write → (capture : List ℕ) → H.left host.old Capture ≡ Some capture
+        → (H.left host.new Capture ≡ Some capture)
+        ⊎ ((H.left host.new Capture ≡ Some []) × (packets : List Packet) × (tail : ℕ) × IsOneSegment built_in_stations capture packets tail) }
     ensures stop { IfErr result (λ stop. (n : ℕ) → stop ≡ Stop.NotYet n → (capture : List ℕ)
         → H.left host.old Capture ≡ Some capture → StopsAt built_in_stations capture n) }
 

@@ -7,7 +7,7 @@ ghost use Rattle.plum_host.specs.declared.host.In.{In};
 ghost use Rattle.plum_host.specs.declared.host.In.TheVariants.{Capture};
 ghost use Rattle.plum_host.specs.declared.host.To.TheVariants.{Out, Journal};
 ghost use Rattle.plum_host.specs.Faults.{HasRisen};
-ghost use Rattle.plum.specs.Bodies.{StopsAt};
+ghost use Rattle.plum.specs.Bodies.{StopsAt, IsWithinSegment};
 ghost use Rattle.plum.specs.Job.{job_of};
 ghost use Rattle.plum.specs.Replayed.{AppendsReplay, IsOneSegment};
 ghost use Rattle.plum.specs.BuiltIn.{built_in_stations};
@@ -60,9 +60,15 @@ pub fn run<H: Host>(alloc: Global, words: &[String], host: &mut H) -> Status
         → ¬ HasRisen (H.write_faults host.old) (H.write_faults host.new)
         → (result ≡ Status.Done) ⊎ (((n : ℕ) × (result ≡ Status.NotYet n)) ⊎ (result ≡ Status.NoMemory)) }
 
-    // A fault of reading or writing has its cause.
+    // A fault of reading or writing has its cause. It comes before the capture stops: a read fails before another record
+    // is whole; a write fails before the capture is read, or behind its end.
     ensures read_fault { result ≡ Status.ReadFault → HasRisen (H.read_faults host.old) (H.read_faults host.new) }
     ensures write_fault { result ≡ Status.WriteFault → HasRisen (H.write_faults host.old) (H.write_faults host.new) }
+    ensures read_place { result ≡ Status.ReadFault → (capture : List ℕ) → H.left host.old Capture ≡ Some capture
+        → IsWithinSegment built_in_stations capture (H.left host.new Capture) }
+    ensures write_place { result ≡ Status.WriteFault → (capture : List ℕ) → H.left host.old Capture ≡ Some capture
+        → (H.left host.new Capture ≡ Some capture)
+        ⊎ ((H.left host.new Capture ≡ Some []) × (packets : List Packet) × (tail : ℕ) × IsOneSegment built_in_stations capture packets tail) }
 
     ensures other_inputs { (other : In) → other ≢ Capture → H.left host.new other ≡ H.left host.old other }
     ensures read_faults { H.read_faults host.old ≤ H.read_faults host.new }

@@ -1,6 +1,6 @@
 -- Reads of one input, one after the other.
 use Rattle.std.proofs.Common.{◌≡◌, ℕ, ◌+◌, ◌≤◌, List, ◌++◌, length, take, drop, Option, Some, None, sym, ap, ◌∙◌, subst, append_assoc, take-append-drop}
-use Rattle.std.proofs.lemmas.List.{length-take-le, take-append-le}
+use Rattle.std.proofs.lemmas.List.{length-take-le, take-append-le, take_at}
 use Rattle.std.proofs.Math.Seq.{take-append-add}
 use borrow.Rule.Slice.PartMut.{put_mid, post_of}
 use Rattle.plum_host.specs.Told.{Takes}
@@ -15,6 +15,10 @@ take-put_mid_front filled size count buffer piece fits short =
     ap (λ (n : ℕ). take (n + count) (front ++ behind)) (sym long)
     ∙ take-append-add front behind count
     ∙ ap (λ (l : List ℕ). front ++ l) (take-append-le count piece (post_of filled size buffer) short)
+
+-- that front alone
+pub take_put_mid : (filled size : ℕ) (buffer piece : List ℕ) → filled ≤ length buffer → take filled (put_mid filled size buffer piece) ≡ take filled buffer
+take_put_mid filled size buffer piece fits = take_at (take filled buffer) (piece ++ post_of filled size buffer) filled (length-take-le filled buffer fits)
 
 -- One more read of the input.
 pub MovesFront-more : (bytes taken piece : List ℕ) (count : ℕ) (left mid after : Option (List ℕ)) → MovesFront bytes left taken mid → Takes mid after count piece → MovesFront bytes left (taken ++ take count piece) after

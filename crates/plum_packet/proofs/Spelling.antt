@@ -48,6 +48,13 @@ module _ (front : List ℕ) (end : ℕ) (short : length front < 2 → end ≡ 2)
     | inr behind ↦ whole_record front (bytes 0 (omega arith)) (bytes 1 (omega arith)) (omega (arith, long behind))
   ]
 
+  -- Bytes within a record that do not come up to there are no record.
+  pub missing_of_record : length front ≤ record_end front → (length front ≡ end → ⊥) → ¬ HasRecord front
+  missing_of_record within missing = elim (cases_lt (length front) 2) [
+    | inl before ↦ no_record front (omega arith)
+    | inr behind ↦ no_record front (omega (arith, long behind))
+  ]
+
   -- No more bytes than those stay within the record.
   pub within_record : (piece : List ℕ) (more : ℕ) → length front + more ≤ end → length front + more ≤ record_end (front ++ piece)
   within_record piece more within = elim (cases_lt (length front) 2) [

@@ -79,6 +79,7 @@ impl Record {
         ensures whole { IfOk result (λ whole. MatchBool whole (IsRecord self.new)
             (¬ HasRecord self.new × OnSome (H.left host.old Capture) (H.left host.new Capture ≡ Some []))) }
         ensures failed { OnErr result (HasRisen (H.read_faults host.old) (H.read_faults host.new)) }
+        ensures short { OnErr result (¬ HasRecord self.new) }
 
         ensures other_inputs { (other : In) → other ≢ Capture → H.left host.new other ≡ H.left host.old other }
         ensures outputs { (to : To) → H.held host.new to ≡ H.held host.old to }
@@ -114,6 +115,7 @@ fn fill<H: Host>(host: &mut H, buffer: &mut [u8], filled: &mut usize) -> Result<
     ensures whole { IfOk result (λ whole. MatchBool whole (IsRecord (take filled.new buffer.new))
         (¬ HasRecord (take filled.new buffer.new) × OnSome (H.left host.old Capture) (H.left host.new Capture ≡ Some []))) }
     ensures failed { OnErr result (HasRisen (H.read_faults host.old) (H.read_faults host.new)) }
+    ensures short { OnErr result (¬ HasRecord (take filled.new buffer.new)) }
 
     ensures other_inputs { (other : In) → other ≢ Capture → H.left host.new other ≡ H.left host.old other }
     ensures outputs { (to : To) → H.held host.new to ≡ H.held host.old to }

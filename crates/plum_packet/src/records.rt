@@ -102,8 +102,9 @@ impl Records {
             → IsCapture capture bodies self.new.ahead × (H.left host.new Capture ≡ Some []))) }
         ensures end { IfOk result (λ found. IfNone found ((self.new.phase ≡ Ended) × GivesNoMore self.old self.new)) }
 
-        // A read that failed loses nothing.
+        // A read that failed loses nothing, and comes before the next record is whole.
         ensures read { IsErrOf result RecordsFault.Read → HasRisen (H.read_faults host.old) (H.read_faults host.new) }
+        ensures short { IsErrOf result RecordsFault.Read → ¬ HasRecord self.new.ahead }
         ensures goes_on { IsErrOf result RecordsFault.Read → (self.new.phase ≡ Reading) × ((capture : List ℕ) (bodies : List (List ℕ))
             → StandsAt capture bodies self.old (H.left host.old Capture)
             → StandsAt capture bodies self.new (H.left host.new Capture)) }

@@ -1,11 +1,12 @@
-use Rattle.std.proofs.Common.{◌+◌, ◌<◌, [], ◌∷◌, ◌++◌, length, sym, ap, subst, ◌∙◌, arith}
+use Rattle.std.proofs.Common.{◌≡◌, Err, ◌+◌, ◌<◌, [], ◌∷◌, ◌++◌, length, sym, ap, subst, ◌∙◌, arith}
 use Rattle.std.proofs.lemmas.Result.{err_from_is_err_and}
 use Rattle.plum_host.specs.declared.host.In.TheVariants.{Capture}
 use Rattle.std.proofs.lemmas.List.{length_push}
 use Rattle.std.proofs.lemmas.List.Elements.{All-push}
 use Rattle.plum_packet.specs.Records.{tail_in}
+use Rattle.plum.specs.declared.packets.ReadStop.TheVariants as stops
 use Rattle.plum.specs.Bodies.{segment_bodies}
-use Rattle.plum.proofs.Reading.{is_listed, ArePackets-push, stops_at}
+use Rattle.plum.proofs.Reading.{is_listed, ArePackets-push, stops_at, within_segment}
 use Rattle.plum.proofs.packets.read_packets.Goals as goal
 
 pub returns-in_err-packet-clause-stop : goal.returns-in_err-packet-clause-stop
@@ -16,6 +17,16 @@ returns-in_err-packet-clause-stop g c =
     let stop = c.in_err-packet.ensures.stop n e in
     stops_at c.args.sites.now.stations capture front.0 c.records.packets.items c.records.records c.next_packet.new.records
     (g.H.Host.left c.records.host Capture) (g.H.Host.left c.next_packet.new.host Capture) n front.1 front.2 c.records.invariant.place.few stop.0 (stop.2 capture front.0 front.1) stop.1)
+
+pub returns-in_err-packet-clause-fault_place : goal.returns-in_err-packet-clause-fault_place
+returns-in_err-packet-clause-fault_place g c =
+    let p = err_from_is_err_and c.from_residual-in_err-packet.result c.from_residual-in_err-packet.ensures.1 in
+    rw (p.1, p.2) (λ e capture told.
+    let front = c.records.invariant.front capture told in
+    let fault : c.in_err-packet.field-0.0 ≡ stops.Fault = cc in
+    let place = c.in_err-packet.ensures.fault_place (ap Err fault) in
+    within_segment c.args.sites.now.stations capture front.0 c.records.packets.items c.records.records c.next_packet.new.records
+    (g.H.Host.left c.records.host Capture) (g.H.Host.left c.next_packet.new.host Capture) front.1 front.2 c.records.invariant.place.few (place.1 capture front.0 front.1) place.0)
 
 pub records-preserved : goal.records-preserved
 records-preserved g c =

@@ -1,4 +1,4 @@
-use Rattle.std.proofs.Common.{◌≡◌, length, sym, ap, subst, ◌∙◌, arith}
+use Rattle.std.proofs.Common.{◌≡◌, inr, length, sym, ap, subst, ◌∙◌, arith}
 use Rattle.std.proofs.lemmas.Result.{on_ok_weaker}
 use Rattle.plum_host.specs.declared.host.In.TheVariants.{Capture}
 use Rattle.plum_host.specs.declared.host.To.TheVariants.{Out, Journal}
@@ -77,3 +77,26 @@ returns-clause-segment g c =
     let read = c.in_ok-segment.ensures.segment capture (c.open_journal.ensures.inputs Capture ∙ told) in
     let segment = c.in_ok-segment.segment in
     (segment.packets.items, segment.tail, subst (λ stations. IsOneSegment stations capture segment.packets.items segment.tail) c.in_ok-sites.ensures.0 read.0)) c.put-2.ensures.whole
+
+-- a write that fails after the capture was read
+pub returns-in_err-put-clause-write_place : goal.returns-in_err-put-clause-write_place
+returns-in_err-put-clause-write_place g c = λ _ capture told.
+    let segment = c.in_ok-segment.segment in
+    let read = c.in_ok-segment.ensures.segment capture (c.open_journal.ensures.inputs Capture ∙ told) in
+    inr (
+      c.put.ensures.inputs Capture ∙ read.1,
+      segment.packets.items,
+      segment.tail,
+      subst (λ stations. IsOneSegment stations capture segment.packets.items segment.tail) c.in_ok-sites.ensures.0 read.0,
+    )
+
+pub returns-clause-write_place : goal.returns-clause-write_place
+returns-clause-write_place g c = λ _ capture told.
+    let segment = c.in_ok-segment.segment in
+    let read = c.in_ok-segment.ensures.segment capture (c.open_journal.ensures.inputs Capture ∙ told) in
+    inr (
+      c.put-2.ensures.inputs Capture ∙ (c.put.ensures.inputs Capture ∙ read.1),
+      segment.packets.items,
+      segment.tail,
+      subst (λ stations. IsOneSegment stations capture segment.packets.items segment.tail) c.in_ok-sites.ensures.0 read.0,
+    )

@@ -1,8 +1,9 @@
 use Rattle.std.proofs.Common.{◌≡◌, ℕ, ◌+◌, ◌-◌, ◌<◌, ◌≤◌, length, take, drop, get_or, ◌∙◌, arith, length-take}
 use Rattle.std.proofs.lemmas.List.{length-take-le, get_or-take}
 use Rattle.std.proofs.Math.Facts.{Fits-lt-pow}
-use Rattle.plum_packet.proofs.Pieces.{take-put_mid_front, MovesFront-more}
-use Rattle.plum_packet.proofs.Spelling.{IsRecord-up_to, within_record}
+use Rattle.std.proofs.lemmas.Result.{err_from_is_err_and}
+use Rattle.plum_packet.proofs.Pieces.{take-put_mid_front, take_put_mid, MovesFront-more}
+use Rattle.plum_packet.proofs.Spelling.{IsRecord-up_to, within_record, missing_of_record}
 use Rattle.plum_packet.proofs.record.fill.Goals as goal
 
 pub returns-then-filled-end-clause-whole : goal.returns-then-filled-end-clause-whole
@@ -13,6 +14,17 @@ returns-then-filled-end-clause-whole g c =
     let there : length (take at.filled at.buffer) ≡ c.end_of-end.result = omega arith in
     let bytes : (k : ℕ) → k < length (take at.filled at.buffer) → get_or (take at.filled at.buffer) k 0 < 256 = λ k below. rw (get_or-take at.filled at.buffer k 0 (omega arith)) (at.invariant.bytes k) in
     IsRecord-up_to (take at.filled at.buffer) c.end_of-end.result said.length said.body bytes there
+
+-- where a read fails, bytes of the record are missing
+pub returns-in_err-count-clause-short : goal.returns-in_err-count-clause-short
+returns-in_err-count-clause-short g c =
+    let at = c.reads in
+    let said = c.end_of-end.ensures in
+    let room = c.end_of-end.result - at.filled in
+    let same = take_put_mid at.filled room at.buffer c.read.new.buf (omega arith) in
+    let long : length (take at.filled at.buffer) ≡ at.filled = length-take-le at.filled at.buffer (omega arith) in
+    let none = missing_of_record (take at.filled at.buffer) c.end_of-end.result said.length said.body (omega (arith, at.invariant.within)) (λ there. omega arith) in
+    rw ((err_from_is_err_and c.from_residual.result c.from_residual.ensures.1).1, same) none
 
 pub reads-preserved : goal.reads-preserved
 reads-preserved g c =
