@@ -1,5 +1,5 @@
 -- What a replay wrote, and why it is right.
-use Rattle.std.specs.Prelude.{◌≡◌, ℕ, ◌<◌, List, length, map, Option, Result}
+use Rattle.std.specs.Prelude.{◌≡◌, ℕ, ◌<◌, List, [], length, map, Option, Result}
 use Rattle.std.specs.List.{AllZip}
 use Rattle.plum_base.specs.declared.packet.Packet.{Packet}
 use Rattle.plum_base.specs.declared.packet.PacketFault.{PacketFault}
@@ -45,3 +45,8 @@ pub record AppendsReplay (capture : List ℕ) (journal_before journal_after out_
   pub replay : IsReplay setup built_in_sites capture journal output
   pub journal_appended : Appends journal_before journal_after journal
   pub output_appended : Appends out_before out_after output
+
+-- Nothing is appended to either output.
+pub record AppendsNothing (journal_before journal_after out_before out_after : Option (List ℕ)) : Type 0 where
+  pub journal : Appends journal_before journal_after []
+  pub output : out_after ≡ out_before

@@ -11,7 +11,7 @@ ghost use Rattle.plum_host.specs.Told.{Appends};
 ghost use Rattle.plum.specs.declared.replay.Stop.TheVariants as stops;
 ghost use Rattle.plum.specs.Bodies.{StopsAt, IsWithinSegment};
 ghost use Rattle.plum.specs.BuiltIn.{built_in_stations};
-ghost use Rattle.plum.specs.Replayed.{AppendsReplay, IsOneSegment};
+ghost use Rattle.plum.specs.Replayed.{AppendsReplay, AppendsNothing, IsOneSegment};
 ghost use Rattle.plum.specs.Stops.{stop_of_read, stop_of_put};
 
 use crate::area::read_area;
@@ -110,6 +110,10 @@ pub fn replay<H: Host>(alloc: Global, host: &mut H) -> Result<(), Stop>
     ensures write { IsErrOf result Stop.Write → HasRisen (H.write_faults host.old) (H.write_faults host.new) }
     ensures read_place { IsErrOf result Stop.Read → (capture : List ℕ) → H.left host.old Capture ≡ Some capture
         → IsWithinSegment built_in_stations capture (H.left host.new Capture) }
+    ensures read_quiet { IsErrOf result Stop.Read
+        → AppendsNothing (H.held host.old Journal) (H.held host.new Journal) (H.held host.old Out) (H.held host.new Out) }
+    ensures stop_quiet { IfErr result (λ stop. (n : ℕ) → stop ≡ Stop.NotYet n
+        → AppendsNothing (H.held host.old Journal) (H.held host.new Journal) (H.held host.old Out) (H.held host.new Out)) }
     ensures write_place { IsErrOf result Stop.Write → (capture : List ℕ) → H.left host.old Capture ≡ Some capture
         → (H.left host.new Capture ≡ Some capture)
         ⊎ ((H.left host.new Capture ≡ Some []) × (packets : List Packet) × (tail : ℕ) × IsOneSegment built_in_stations capture packets tail) }

@@ -9,7 +9,7 @@ ghost use Rattle.plum_host.specs.declared.host.To.TheVariants.{Out, Journal};
 ghost use Rattle.plum_host.specs.Faults.{HasRisen};
 ghost use Rattle.plum.specs.Bodies.{StopsAt, IsWithinSegment};
 ghost use Rattle.plum.specs.Job.{job_of};
-ghost use Rattle.plum.specs.Replayed.{AppendsReplay, IsOneSegment};
+ghost use Rattle.plum.specs.Replayed.{AppendsReplay, AppendsNothing, IsOneSegment};
 ghost use Rattle.plum.specs.BuiltIn.{built_in_stations};
 
 use crate::job::read_words;
@@ -69,6 +69,10 @@ pub fn run<H: Host>(alloc: Global, words: &[String], host: &mut H) -> Status
     ensures write_place { result ≡ Status.WriteFault → (capture : List ℕ) → H.left host.old Capture ≡ Some capture
         → (H.left host.new Capture ≡ Some capture)
         ⊎ ((H.left host.new Capture ≡ Some []) × (packets : List Packet) × (tail : ℕ) × IsOneSegment built_in_stations capture packets tail) }
+
+    // Before the capture is read whole nothing is appended.
+    ensures quiet { (result ≡ Status.ReadFault) ⊎ ((n : ℕ) × (result ≡ Status.NotYet n))
+        → AppendsNothing (H.held host.old Journal) (H.held host.new Journal) (H.held host.old Out) (H.held host.new Out) }
 
     ensures other_inputs { (other : In) → other ≢ Capture → H.left host.new other ≡ H.left host.old other }
     ensures read_faults { H.read_faults host.old ≤ H.read_faults host.new }
