@@ -12,3 +12,4 @@ pub mod AnswerLines
 pub mod Stops
 pub mod OneSegment
 pub mod Replaying
+pub mod AddingUp

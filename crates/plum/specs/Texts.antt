@@ -1,5 +1,5 @@
 -- The two texts of a run: the journal and the output (the project's own format).
-use Rattle.std.specs.Prelude.{ℕ, ◌+◌, ◌-◌, List, [], ◌∷◌, ◌++◌, length, map, sum_by, zip, Option, Some, None, Result, slice_get}
+use Rattle.std.specs.Prelude.{◌≡◌, ℕ, ◌+◌, ◌-◌, List, [], ◌∷◌, ◌++◌, length, map, sum_by, zip, Option, Some, None, Result, slice_get}
 use Rattle.std.specs.List.{flat_map}
 use Rattle.plum_base.specs.declared.answers.Reading.{Reading}
 use Rattle.plum_base.specs.declared.entry.Entry.{Entry}
@@ -46,6 +46,10 @@ counts_of read kept = record {
   repeats = length (packets_in read) - length kept;
   refused = length (refused_in read);
 }
+
+-- Each body is counted once: it is kept, a repeat, or refused.
+abbrev pub AddUp : Counts → Type 0
+AddUp counts = counts.bodies ≡ counts.kept + counts.repeats + counts.refused
 
 -- what the output tells at a mark
 pub record Section : Type 0 where

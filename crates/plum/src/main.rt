@@ -21,6 +21,7 @@ pub use status::{Status, status_number, status_text};
 use std::env;
 use std::io::{ErrorKind, Write};
 use std::process::ExitCode;
+pub use text::counts::counts_add_up;
 
 #[cfg(test)]
 mod tests;

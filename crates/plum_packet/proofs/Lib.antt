@@ -4,3 +4,4 @@ pub mod Spelling
 pub mod Fields
 pub mod FirstFault
 pub mod Samples
+pub mod Cuts

@@ -1,7 +1,7 @@
 -- Segments of a capture (the project's own rule). A mark ends a segment, and so does the body that fills it. The last
 -- segment ends at the end of the capture and may be empty.
-use Rattle.std.specs.Prelude.{◌≡◌, ℕ, ◌+◌, ◌==◌, if◌then◌else◌, List, [], ◌∷◌, ◌++◌, length, filter_map, option_map, Result, Ok, Err}
-use Rattle.std.specs.List.{AllZip}
+use Rattle.std.specs.Prelude.{◌≡◌, ◌≢◌, ℕ, ◌+◌, ◌<◌, ◌==◌, not, if◌then◌else◌, List, [], ◌∷◌, ◌++◌, length, All, filter, filter_map, option_map, Result, Ok, Err}
+use Rattle.std.specs.List.{AllZip, enumerate_from}
 use Rattle.std.specs.Result.{result_ok, result_err}
 use Rattle.std.specs.Str.{bytes_eq}
 use Rattle.plum_base.specs.declared.sites.StationSite.{StationSite}
@@ -28,6 +28,27 @@ segments_from n held (body ∷ bodies) =
 -- the segments of a capture of these bodies; records are numbered from 1, marks included
 abbrev pub segments_of : List (List ℕ) → List (List (ℕ × List ℕ))
 segments_of bodies = segments_from 1 [] bodies
+
+-- the bodies of a capture that are not marks, each with the number of its record
+abbrev pub unmarked : List (List ℕ) → List (ℕ × List ℕ)
+unmarked bodies = filter (λ numbered. not (bytes_eq numbered.1 mark_body)) (enumerate_from 1 bodies)
+
+-- None of these bodies is a mark.
+abbrev pub HasNoMark : List (List ℕ) → Type 0
+HasNoMark bodies = All (λ body. body ≢ mark_body) bodies
+
+-- This is a way to cut the records from a number on into segments: a segment goes on until a mark comes, or it is full,
+-- or the capture ends.
+pub record CutsSegments (segments : ℕ → List (List ℕ) → List (List (ℕ × List ℕ))) : Type 0 where
+  -- A mark ends the segment before it.
+  pub mark : (n : ℕ) (front later : List (List ℕ)) → HasNoMark front → length front < segment_bodies
+      → segments n (front ++ mark_body ∷ later) ≡ enumerate_from n front ∷ segments (n + length front + 1) later
+  -- Bodies that fill a segment end it.
+  pub full : (n : ℕ) (front later : List (List ℕ)) → HasNoMark front → length front ≡ segment_bodies
+      → segments n (front ++ later) ≡ enumerate_from n front ∷ segments (n + segment_bodies) later
+  -- Fewer, with no mark after them, are the last segment.
+  pub last : (n : ℕ) (bodies : List (List ℕ)) → HasNoMark bodies → length bodies < segment_bodies
+      → segments n bodies ≡ enumerate_from n bodies ∷ []
 
 -- What a body reads as: a packet, or its first fault.
 abbrev pub ReadsAs : List StationSite → List ℕ → Result Packet PacketFault → Type 0
