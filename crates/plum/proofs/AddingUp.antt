@@ -37,9 +37,15 @@ bodies_more : (s : Section) (sections : List Section) → (totals_of (s ∷ sect
 bodies_more s sections = sum_by-cons (λ (s : Section). s.counts.bodies) s sections
 
 totals_more : (s : Section) (sections : List Section) → AddUp s.counts → AddUp (totals_of sections) → AddUp (totals_of (s ∷ sections))
-totals_more s sections one more = omega (arith, one, more,
-    sum_by-cons (λ (s : Section). s.counts.bodies) s sections, sum_by-cons (λ (s : Section). s.counts.kept) s sections,
-    sum_by-cons (λ (s : Section). s.counts.repeats) s sections, sum_by-cons (λ (s : Section). s.counts.refused) s sections)
+totals_more s sections one more = omega (
+  arith,
+  one,
+  more,
+  sum_by-cons (λ (s : Section). s.counts.bodies) s sections,
+  sum_by-cons (λ (s : Section). s.counts.kept) s sections,
+  sum_by-cons (λ (s : Section). s.counts.repeats) s sections,
+  sum_by-cons (λ (s : Section). s.counts.refused) s sections,
+)
 
 -- the sections of these segments, which come after earlier packets
 abbrev sections_after : List Packet → List (List (ℕ × Result Packet PacketFault)) → List (List Reading) → List Section
@@ -52,7 +58,7 @@ totals_add_up earlier (segment ∷ segments) [] = refl
 totals_add_up earlier (segment ∷ segments) (at_mark ∷ readings) =
     let after = earlier ++ packets_in segment in
     totals_more (section_of segment (kept_packets_after earlier (packets_in segment)) at_mark) (sections_after after segments readings)
-        (segment_adds_up segment earlier) (totals_add_up after segments readings)
+    (segment_adds_up segment earlier) (totals_add_up after segments readings)
 
 pub all_bodies : (earlier : List Packet) (segments : List (List (ℕ × Result Packet PacketFault))) (readings : List (List Reading))
     → length readings ≡ length segments → (totals_of (sections_after earlier segments readings)).bodies ≡ sum_by length segments
@@ -60,5 +66,9 @@ all_bodies earlier [] readings same = refl
 all_bodies earlier (segment ∷ segments) [] same = absurd (omega arith)
 all_bodies earlier (segment ∷ segments) (at_mark ∷ readings) same =
     let after = earlier ++ packets_in segment in
-    omega (arith, all_bodies after segments readings (omega arith), sum_by-cons length segment segments,
-        bodies_more (section_of segment (kept_packets_after earlier (packets_in segment)) at_mark) (sections_after after segments readings))
+    omega (
+      arith,
+      all_bodies after segments readings (omega arith),
+      sum_by-cons length segment segments,
+      bodies_more (section_of segment (kept_packets_after earlier (packets_in segment)) at_mark) (sections_after after segments readings),
+    )

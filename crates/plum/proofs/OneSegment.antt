@@ -1,13 +1,10 @@
 -- A capture of one segment, and the transcript of its one reading.
-use Rattle.std.proofs.Common.{◌≡◌, ◌≢◌, ℕ, ◌+◌, ◌-◌, ◌<◌, ◌≤◌, zero, suc, false, List, [], ◌∷◌, ◌++◌, length, take, Some, Result, Ok, inl, inr, refl, sym, ap, subst, ◌∙◌, arith, append-nil, append_assoc}
-use Rattle.std.proofs.lemmas.Bool.{cases_Bool, ne_eqb}
-use Rattle.std.proofs.lemmas.List.{length-map, length_push}
+use Rattle.std.proofs.Common.{◌≡◌, ℕ, ◌+◌, ◌-◌, ◌<◌, ◌≤◌, zero, suc, List, [], ◌∷◌, length, take, Some, Result, Ok, refl, sym, ap, subst, ◌∙◌, arith, append-nil}
+use Rattle.std.proofs.lemmas.List.{length-map}
 use Rattle.std.proofs.Math.Seq.{take-length}
 use Rattle.std.proofs.lemmas.List.Elements.{All-nil, All-cons}
-use Rattle.std.proofs.lemmas.Slice.Eq.{bytes_eq-Decides}
 use Rattle.std.specs.Prelude.{slice_get}
 use Rattle.std.specs.List.{AllZip, enumerate_from}
-use Rattle.std.specs.Str.{bytes_eq}
 use Rattle.plum_base.specs.declared.answers.Reading.{Reading}
 use Rattle.plum_base.specs.declared.entry.Entry.{Entry}
 use Rattle.plum_base.specs.declared.packet.Packet.{Packet}
@@ -16,31 +13,22 @@ use Rattle.plum_base.specs.declared.setup.Setup.{Setup}
 use Rattle.plum_base.specs.declared.sites.StationSite.{StationSite}
 use Rattle.plum_base.specs.Sites.{Lists, areas_of}
 use Rattle.plum_packet.specs.Capture.{mark_body}
-use Rattle.plum_packet.specs.Segments.{segment_bodies, segments_from, segments_of, IsReadSegment, packets_in, refused_in}
+use Rattle.plum_packet.specs.Segments.{segment_bodies, segments_of, HasNoMark, IsReadSegment, packets_in, refused_in}
 use Rattle.plum.specs.declared.text.lines.Counts.{Counts}
 use Rattle.plum.specs.Bodies.{ArePackets}
 use Rattle.plum.specs.History.{packet_of, IsValidHistory, HoldsKept, kept_packets}
 use Rattle.plum.specs.Texts.{entry_lines, journal_text, one_area, sections_of}
 use Rattle.plum.specs.Transcript.{Transcript, journal_of, IsReadingAt, of_lane, targets_of, ArePredictions, IsLegal}
 
-bytes_differ : (xs ys : List ℕ) → (xs ≢ ys) → bytes_eq xs ys ≡ false
-bytes_differ xs ys differ = elim (cases_Bool (bytes_eq xs ys)) [ inl same ↦ absurd (differ ((bytes_eq-Decides xs ys).0 same)) | inr other ↦ other ]
+-- a capture without a mark and with fewer bodies than fill a segment is one, as the law of segments says
+abbrev pub IsOne : Type 0
+IsOne = (bodies : List (List ℕ)) → HasNoMark bodies → length bodies < segment_bodies → segments_of bodies ≡ enumerate_from 1 bodies ∷ []
 
-module _ (stations : List StationSite) where
-  -- without a mark, and with room for each body, the open segment takes all
-  segments_from-room : (n : ℕ) (held : List (ℕ × List ℕ)) (bodies : List (List ℕ)) (packets : List Packet) → ArePackets stations bodies packets
-      → length held + length bodies < segment_bodies → segments_from n held bodies ≡ (held ++ enumerate_from n bodies) ∷ []
-  segments_from-room n held [] packets are few = ap (λ segment. segment ∷ []) (sym (append-nil held))
-  segments_from-room n held (body ∷ bodies) [] are few = absurd are
-  segments_from-room n held (body ∷ bodies) (p ∷ ps) are few =
-      let longer = held ++ (n, body) ∷ [] in
-      rw (bytes_differ body mark_body are.0, ne_eqb (length held + 1) segment_bodies (λ full. omega arith))
-      (segments_from-room (n + 1) longer bodies ps are.2 (omega (arith, length_push held (n, body)))
-      ∙ ap (λ segment. segment ∷ []) (append_assoc held ((n, body) ∷ []) (enumerate_from (n + 1) bodies)))
-
-  pub segments_of-one : (bodies : List (List ℕ)) (packets : List Packet) → ArePackets stations bodies packets → length bodies < segment_bodies
-      → segments_of bodies ≡ enumerate_from 1 bodies ∷ []
-  segments_of-one bodies packets are few = segments_from-room 1 [] bodies packets are (omega arith)
+-- a packet is no mark
+unmarked : (stations : List StationSite) (bodies : List (List ℕ)) (packets : List Packet) → ArePackets stations bodies packets → HasNoMark bodies
+unmarked stations [] packets are = All-nil _
+unmarked stations (b ∷ bs) [] are = absurd are
+unmarked stations (b ∷ bs) (p ∷ ps) are = All-cons (λ body. body ≡ mark_body → ⊥) b bs are.0 (unmarked stations bs ps are.2)
 
 -- a segment that holds these packets alone, read from record n on
 abbrev pub all_lawful : ℕ → List Packet → List (ℕ × Result Packet PacketFault)
@@ -67,10 +55,10 @@ IsReadSegment-lawful stations n [] (p ∷ ps) are = absurd are
 IsReadSegment-lawful stations n (b ∷ bs) [] are = absurd are
 IsReadSegment-lawful stations n (b ∷ bs) (p ∷ ps) are = ((refl, are.1), IsReadSegment-lawful stations (n + 1) bs ps are.2)
 
-pub read_one : (stations : List StationSite) (bodies : List (List ℕ)) (packets : List Packet) → ArePackets stations bodies packets → length bodies < segment_bodies
+pub read_one : IsOne → (stations : List StationSite) (bodies : List (List ℕ)) (packets : List Packet) → ArePackets stations bodies packets → length bodies < segment_bodies
     → AllZip (IsReadSegment stations) (segments_of bodies) (all_lawful 1 packets ∷ [])
-read_one stations bodies packets are few =
-    rw (segments_of-one stations bodies packets are few) (IsReadSegment-lawful stations 1 bodies packets are, tt)
+read_one one stations bodies packets are few =
+    rw (one bodies (unmarked stations bodies packets are) few) (IsReadSegment-lawful stations 1 bodies packets are, tt)
 
 -- the transcript of one segment and one area
 abbrev pub one_reading : List Entry → Reading → Transcript

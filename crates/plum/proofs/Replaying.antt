@@ -16,7 +16,7 @@ use Rattle.plum.specs.Replayed.{IsOneSegment, IsReplay}
 use Rattle.plum.specs.BuiltIn.{IsBuiltInSetup, built_in_stations, built_in_targets, built_in_sites}
 use Rattle.plum.specs.Texts.{entry_lines, one_area, sections_of, output_text}
 use Rattle.plum.specs.Transcript.{targets_of, ArePredictions, IsLegal}
-use Rattle.plum.proofs.OneSegment.{all_lawful, packets_in-all_lawful, read_one, one_reading, legal_one, journal_one, section_one}
+use Rattle.plum.proofs.OneSegment.{IsOne, all_lawful, packets_in-all_lawful, read_one, one_reading, legal_one, journal_one, section_one}
 
 no_more : (b : Bool) (p : Packet) (ps kept : List Packet) → length kept ≤ length ps → length (cond b (p ∷ kept) kept) ≤ length (p ∷ ps)
 no_more true p ps kept h = omega arith
@@ -47,17 +47,17 @@ module _ (setup : Setup) (built_in : IsBuiltInSetup setup) (capture : List ℕ) 
       subst (λ name. ArePredictions built_in_stations history (targets_of name built_in_targets) reading.answers) is are
 
   -- The lines of a valid and complete history, and the output of a reading over it, make a replay.
-  pub replay_of : (history : List Entry) (reading : Reading) (counts : Counts) (journal output : List ℕ) → IsValidHistory setup 1 history → HoldsKept history packets
+  pub replay_of : IsOne → (history : List Entry) (reading : Reading) (counts : Counts) (journal output : List ℕ) → IsValidHistory setup 1 history → HoldsKept history packets
       → reading.front ≡ length history → ArePredictions built_in_stations history built_in_targets reading.answers
       → counts ≡ record { bodies = length packets; kept = length history; repeats = length packets - length history; refused = 0 }
       → journal ≡ entry_lines built_in_stations 1 1 history → output ≡ output_text built_in_targets (one_area counts reading ∷ []) tail
       → IsReplay setup built_in_sites capture journal output
-  replay_of history reading counts journal output valid holds front are counted journal_is output_is = record {
+  replay_of one history reading counts journal output valid holds front are counted journal_is output_is = record {
     bodies = segment.bodies;
     rest = segment.rest;
     reading = segment.reading;
     segments = all_lawful 1 packets ∷ [];
-    read = read_one built_in_stations segment.bodies packets segment.decoded segment.few;
+    read = read_one one built_in_stations segment.bodies packets segment.decoded segment.few;
     transcript = one_reading history reading;
     legal = subst (λ ps. IsLegal setup built_in_sites (ps ∷ []) (one_reading history reading)) (sym (packets_in-all_lawful 1 packets))
         (legal_one setup built_in_sites history reading packets front valid holds refl (of_the_area history reading are));

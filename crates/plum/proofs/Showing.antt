@@ -18,9 +18,9 @@ use Rattle.plum.proofs.Shown.{last_value-push, last_value-push_other}
 
 le_yes : (a b : ℤ) → a ≤ℤ b → int_le a b ≡ true
 le_yes a b h = elim (int_le a b) as (λ v. int_le a b ≡ v → v ≡ true) [
-    | true ↦ λ _. refl
-    | false ↦ λ no. absurd (omega (arith, ints, no, h))
-  ] refl
+  | true ↦ λ _. refl
+  | false ↦ λ no. absurd (omega (arith, ints, no, h))
+] refl
 
 -- what a table gives is on the scale
 on_scale : (table : Table) (amplitudes : List ℕ) (value : Option Tenths) → IsLevelTable table → IsValue table amplitudes value → none_or_on_scale value ≡ true

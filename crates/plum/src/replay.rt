@@ -23,6 +23,7 @@ use crate::text::lines::Counts;
 use crate::text::output::output_text;
 use plum_base::{Bytes, NoMemory};
 use plum_host::{Host, PutFault, To, WriteRefusal, put_all};
+use plum_packet::segments_hold_each_body;
 use std::alloc::Global;
 
 /// Why a replay stopped.
@@ -133,6 +134,8 @@ pub fn replay<H: Host>(alloc: Global, host: &mut H) -> Result<(), Stop>
     };
     open_journal(host)?;
     let segment = read_packets(alloc, &sites, host)?;
+    // For the contract: without a mark, fewer bodies than fill a segment are one segment.
+    segments_hold_each_body();
     let bodies = segment.packets.len() as u32;
     let history = history_of(alloc, &setup, segment.packets)?;
     let kept = history.len() as u32;

@@ -113,12 +113,13 @@ fn expect_not_yet(
     Ok(())
 }
 
-/// Runs words that are not of the grammar: nothing is written.
+/// Runs words that are not of the grammar: nothing is read and nothing is written.
 fn expect_usage(rt: &impl Abort, alloc: Global, words: &[&str]) -> Result<(), Fail> {
     let words = words_of(alloc, words)?;
-    let mut host = host_of(alloc, &[PacketRow(0, 0, &[(30, 10)])], &[])?;
+    let memory = host_of(alloc, &[PacketRow(0, 0, &[(30, 10)])], &[])?;
+    let mut host = NotingHost::new(memory, 0, 0);
     assert_eq!(rt; run(alloc, &words, &mut host), Status::Usage);
-    assert!(rt; host.held(To::Journal).is_empty() && host.held(To::Out).is_empty());
+    assert_eq!(rt; (host.notes.reads, host.notes.writes), (0, 0));
     assert_eq!(rt; paths_of(alloc, &words)?.capture.as_str(), "");
     Ok(())
 }
@@ -133,7 +134,8 @@ fn expect_fault(
 ) -> Result<(), Fail> {
     let memory = host_of(alloc, &[PacketRow(0, 0, &[(1, 10)])], &[])?;
     let mut host = NotingHost::new(memory, failing.0, failing.1);
-    assert_eq!(rt; run(alloc, &words_of(alloc, &REPLAY)?, &mut host), status);
+    let told = run(alloc, &words_of(alloc, &REPLAY)?, &mut host);
+    assert_eq!(rt; told, status, "{failing:?} fails");
     assert_eq!(rt; host.memory.held(To::Journal), written.0.as_bytes());
     assert_eq!(rt; host.memory.held(To::Out), written.1.as_bytes());
     Ok(())
@@ -147,9 +149,32 @@ fn failing_calls(rt: HostRuntime) -> Result<(), Fail> {
     expect_fault(&rt, alloc, (0, 0), Status::Done, (journal, output))?;
     expect_fault(&rt, alloc, (1, 0), Status::ReadFault, ("", ""))?;
     expect_fault(&rt, alloc, (2, 0), Status::ReadFault, ("", ""))?;
+    // The third read would meet the end.
+    expect_fault(&rt, alloc, (3, 0), Status::ReadFault, ("", ""))?;
     expect_fault(&rt, alloc, (0, 1), Status::WriteFault, ("", ""))?;
     expect_fault(&rt, alloc, (0, 2), Status::WriteFault, ("", ""))?;
     expect_fault(&rt, alloc, (0, 3), Status::WriteFault, (journal, ""))
+}
+
+/// A call that would fail behind the record at which the capture stops is not made.
+#[test]
+fn stop_before_a_fault(rt: HostRuntime) -> Result<(), Fail> {
+    let alloc = rt.alloc();
+    for failing in [(3, 0), (0, 2)] {
+        let mut capture = Bytes::new(alloc)?;
+        put_record(&mut capture, b"MK")?;
+        put_record(
+            &mut capture,
+            &body_of(alloc, 1, &PacketRow(0, 0, &[(1, 10)]))?,
+        )?;
+        let mut host = NotingHost::new(host_over(alloc, capture)?, failing.0, failing.1);
+        let status = run(alloc, &words_of(alloc, &REPLAY)?, &mut host);
+        assert_eq!(rt; status, Status::NotYet(1), "{failing:?} fails");
+        assert!(rt;
+            host.memory.held(To::Journal).is_empty() && host.memory.held(To::Out).is_empty()
+        );
+    }
+    Ok(())
 }
 
 /// The journal is made by an empty piece before the capture is read, and each piece is whole lines.
@@ -302,6 +327,35 @@ fn records_that_are_not_yet(rt: HostRuntime) -> Result<(), Fail> {
         &[lawful.as_slice(), lawful.as_slice(), stranger.as_slice()],
         3,
     )
+}
+
+/// A capture of one packet of one sample, so many times.
+fn repeats(alloc: Global, times: u32) -> Result<Bytes, Fail> {
+    let body = body_of(alloc, 1, &PacketRow(0, 0, &[(1, 10)]))?;
+    let mut capture = Bytes::new(alloc)?;
+    for _ in 0..times {
+        put_record(&mut capture, &body)?;
+    }
+    Ok(capture)
+}
+
+#[test]
+fn segment_of_65535_bodies_is_done(rt: HostRuntime) -> Result<(), Fail> {
+    let alloc = rt.alloc();
+    let (status, host) = replayed(alloc, host_over(alloc, repeats(alloc, 65_535)?)?)?;
+    assert_eq!(rt; status, Status::Done);
+    assert_eq!(rt; host.held(To::Journal), b"E 1 1 1 0 0 F -\n".as_slice());
+    assert!(rt; host.held(To::Out).ends_with(b"T 0\nZ 1 65535 1 65534 0\n"));
+    Ok(())
+}
+
+#[test]
+fn segment_of_65536_bodies_is_not_yet(rt: HostRuntime) -> Result<(), Fail> {
+    let alloc = rt.alloc();
+    let (status, host) = replayed(alloc, host_over(alloc, repeats(alloc, 65_536)?)?)?;
+    assert_eq!(rt; status, Status::NotYet(65_536));
+    assert!(rt; host.held(To::Journal).is_empty() && host.held(To::Out).is_empty());
+    Ok(())
 }
 
 #[test]

@@ -37,9 +37,8 @@ fn gives<H: Host>(host: &mut H, file: In, want: &str) -> bool {
     }
 }
 
-#[test]
-fn memory_reads(rt: HostRuntime) -> Result<(), Fail> {
-    let mut host = names(rt.alloc())?;
+/// Reads each input, which is its own name, in pieces of three bytes and among reads of the others.
+fn expect_names<H: Host>(rt: &impl Abort, host: &mut H) {
     let rows = [
         (In::Capture, "cap"),
         (In::Capture, "tur"),
@@ -55,8 +54,13 @@ fn memory_reads(rt: HostRuntime) -> Result<(), Fail> {
         (In::Capture, ""),
     ];
     for (file, want) in rows.iter() {
-        assert!(rt; gives(&mut host, *file, *want), "{file:?} gives {want:?}");
+        assert!(rt; gives(host, *file, *want), "{file:?} gives {want:?}");
     }
+}
+
+#[test]
+fn memory_reads(rt: HostRuntime) -> Result<(), Fail> {
+    expect_names(&rt, &mut names(rt.alloc())?);
     Ok(())
 }
 
@@ -221,5 +225,43 @@ fn real_files(rt: HostRuntime) -> Result<(), Fail> {
     check_writes(&rt, path.as_str())?;
     check_reads(&rt, path.as_str())?;
     fs::remove_file(&rt, path.as_str())?;
+    Ok(())
+}
+
+/// The path of an input behind a front that the paths of all inputs share.
+fn named(alloc: Global, front: &str, name: &str) -> Result<PathText, Fail> {
+    let path = format!(in alloc; "{front}_{name}")?;
+    Ok(PathText::new(alloc, path.as_str())?)
+}
+
+fn named_paths(alloc: Global, front: &str) -> Result<Paths, Fail> {
+    Ok(Paths {
+        setup: named(alloc, front, "setup")?,
+        stations: named(alloc, front, "stations")?,
+        targets: named(alloc, front, "targets")?,
+        capture: named(alloc, front, "capture")?,
+        journal: named(alloc, front, "journal")?,
+        output: named(alloc, front, "output")?,
+    })
+}
+
+/// Each input is read from the file of its own path.
+#[test]
+fn real_inputs(rt: HostRuntime) -> Result<(), Fail> {
+    let alloc = rt.alloc();
+    let front = own_path(&rt, process::id(rt.process()))?;
+    let inputs = [
+        "setup", "stations", "targets", "capture", "journal", "output",
+    ];
+    for name in inputs {
+        fs::write(&rt, named(alloc, front.as_str(), name)?.as_str(), name)?;
+    }
+    expect_names(
+        &rt,
+        &mut StdHost::new(&rt, named_paths(alloc, front.as_str())?),
+    );
+    for name in inputs {
+        fs::remove_file(&rt, named(alloc, front.as_str(), name)?.as_str())?;
+    }
     Ok(())
 }

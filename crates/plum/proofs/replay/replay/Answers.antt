@@ -51,7 +51,7 @@ returns-clause-texts g c =
       output = output;
       replay = replay_of c.built_in_setup-setup.result c.built_in_setup-setup.ensures capture segment.packets.items segment.tail
           (subst (λ stations. IsOneSegment stations capture segment.packets.items segment.tail) sites.0 read.0)
-          c.in_ok-history.history.items c.in_ok-reading.reading _ journal output
+          c.segments_hold_each_body.ensures.one c.in_ok-history.history.items c.in_ok-reading.reading _ journal output
           c.in_ok-history.ensures.valid c.in_ok-history.ensures.complete
           (c.in_ok-reading.ensures.front ∙ ap length c.deref.ensures.value)
           (subst (λ history. ArePredictions built_in_stations history built_in_targets c.in_ok-reading.reading.answers) c.deref.ensures.value
