@@ -6,7 +6,7 @@ use Rattle.std.specs.List.{sum_by}
 use Rattle.plum_base.specs.declared.answers.Reading.{Reading}
 use Rattle.plum_base.specs.declared.packet.Packet.{Packet}
 use Rattle.plum_base.specs.declared.packet.PacketFault.{PacketFault}
-use Rattle.plum_engine.specs.Keys.{is_kept}
+use Rattle.plum_seq.specs.Keys.{is_kept}
 use Rattle.plum_packet.specs.Segments.{packets_in, refused_in}
 use Rattle.plum.specs.History.{of_station, kept_packets_after}
 use Rattle.plum.specs.Texts.{counts_of, Section, section_of, sections_from, totals_of, AddUp}

@@ -3,19 +3,20 @@ use Rattle.std.proofs.Common.{◌≡◌, ℕ, ◌<◌, ◌≤◌, ◌%◌, true,
 use Rattle.std.proofs.lemmas.Bool.{cases_Bool}
 use Rattle.std.proofs.lemmas.List.{map-append, same_from_push}
 use Rattle.std.proofs.lemmas.List.Elements.{filter-append}
-use Rattle.std.specs.Prelude.{if◌then◌else◌, ◌==◌}
+use Rattle.std.specs.Prelude.{if◌then◌else◌, ◌==◌, None}
+use Rattle.std.specs.Option.{option_map}
 use Rattle.plum_base.specs.declared.entry.Entry.{Entry}
 use Rattle.plum_base.specs.declared.packet.Packet.{Packet}
 use Rattle.plum_base.specs.declared.numbers.Key.{Key}
 use Rattle.plum_base.specs.declared.setup.Setup.{Setup}
 use Rattle.plum_base.specs.declared.wave.Sample.{Sample}
-use Rattle.plum_engine.specs.Keys.{is_kept, kept, is_fresh, marked}
+use Rattle.plum_seq.specs.Keys.{is_kept, kept, last, last_kept, is_fresh, marked_after, marked}
 use Rattle.plum_engine.specs.Level.{IsValue}
 use Rattle.plum_engine.specs.Run.{samples_since_gap}
 use Rattle.plum_engine.specs.Signal.{amplitudes_of}
-use Rattle.plum.specs.History.{packet_of, of_station, packets_of, last_kept, IsEntryAfter, IsValidHistory, kept_packets_after, kept_packets, HoldsKept}
+use Rattle.plum.specs.History.{packet_of, of_station, packets_of, IsEntryAfter, IsValidHistory, kept_packets_after, kept_packets, HoldsKept}
 use Rattle.plum.specs.Station.{IsEntryOf}
-use Rattle.plum.proofs.Kept.{kept-push, kept-push_repeat, is_kept-kept, last_kept-kept, marked-kept}
+use Rattle.plum.proofs.KeyLaws.{Joins, Repeats, Alone, Same}
 use Rattle.plum.proofs.Pushes.{by_push, if-append}
 
 module _ (s : ℕ) (ps : List Packet) (p : Packet) where
@@ -50,39 +51,40 @@ module _ (ps : List Packet) (p : Packet) where
   kept_packets-push_repeat is =
       kept_packets_after-append [] ps (p ∷ []) ∙ ap (λ b. kept_packets ps ++ (if b then p ∷ [] else [])) is ∙ append-nil (kept_packets ps)
 
-module _ (s : ℕ) (ps : List Packet) (p : Packet) (before : of_station s (kept_packets ps) ≡ kept (of_station s ps)) where
-  -- one more packet of the station
-  kept_of_station-push : p.station.0 ≡ s → of_station s (kept_packets (ps ++ p ∷ [])) ≡ kept (of_station s (ps ++ p ∷ []))
-  kept_of_station-push own =
-      let pair : Key × List Sample = (p.key, p.wave) in
-      let here : is_kept (of_station s ps) p.key ≡ is_kept (of_station p.station.0 ps) p.key = ap (λ t. is_kept (of_station t ps) p.key) (sym own) in
-      let more : kept (of_station s (ps ++ p ∷ [])) ≡ kept (of_station s ps ++ pair ∷ []) = ap kept (of_station-push s ps p own) in
-      elim (cases_Bool (is_kept (of_station p.station.0 ps) p.key)) [
-        | inl is ↦ ap (of_station s) (kept_packets-push ps p is) ∙ of_station-push s (kept_packets ps) p own ∙ ap (λ k. k ++ pair ∷ []) before
-            ∙ sym (more ∙ kept-push (of_station s ps) pair (here ∙ is))
-        | inr is ↦ ap (of_station s) (kept_packets-push_repeat ps p is) ∙ before ∙ sym (more ∙ kept-push_repeat (of_station s ps) pair (here ∙ is))
-      ]
+module _ (joins : Joins) (repeats : Repeats) where
+  module _ (s : ℕ) (ps : List Packet) (p : Packet) (before : of_station s (kept_packets ps) ≡ kept (of_station s ps)) where
+    -- one more packet of the station
+    kept_of_station-push : p.station.0 ≡ s → of_station s (kept_packets (ps ++ p ∷ [])) ≡ kept (of_station s (ps ++ p ∷ []))
+    kept_of_station-push own =
+        let pair : Key × List Sample = (p.key, p.wave) in
+        let here : is_kept (of_station s ps) p.key ≡ is_kept (of_station p.station.0 ps) p.key = ap (λ t. is_kept (of_station t ps) p.key) (sym own) in
+        let more : kept (of_station s (ps ++ p ∷ [])) ≡ kept (of_station s ps ++ pair ∷ []) = ap kept (of_station-push s ps p own) in
+        elim (cases_Bool (is_kept (of_station p.station.0 ps) p.key)) [
+          | inl is ↦ ap (of_station s) (kept_packets-push ps p is) ∙ of_station-push s (kept_packets ps) p own ∙ ap (λ k. k ++ pair ∷ []) before
+              ∙ sym (more ∙ joins (of_station s ps) pair (here ∙ is))
+          | inr is ↦ ap (of_station s) (kept_packets-push_repeat ps p is) ∙ before ∙ sym (more ∙ repeats (of_station s ps) pair (here ∙ is))
+        ]
 
-  -- one more packet of another station
-  kept_of_station-push_other : (p.station.0 == s) ≡ false → of_station s (kept_packets (ps ++ p ∷ [])) ≡ kept (of_station s (ps ++ p ∷ []))
-  kept_of_station-push_other other =
-      let same : kept (of_station s (ps ++ p ∷ [])) ≡ kept (of_station s ps) = ap kept (of_station-push_other s ps p other) in
-      elim (cases_Bool (is_kept (of_station p.station.0 ps) p.key)) [
-        | inl is ↦ ap (of_station s) (kept_packets-push ps p is) ∙ of_station-push_other s (kept_packets ps) p other ∙ before ∙ sym same
-        | inr is ↦ ap (of_station s) (kept_packets-push_repeat ps p is) ∙ before ∙ sym same
-      ]
+    -- one more packet of another station
+    kept_of_station-push_other : (p.station.0 == s) ≡ false → of_station s (kept_packets (ps ++ p ∷ [])) ≡ kept (of_station s (ps ++ p ∷ []))
+    kept_of_station-push_other other =
+        let same : kept (of_station s (ps ++ p ∷ [])) ≡ kept (of_station s ps) = ap kept (of_station-push_other s ps p other) in
+        elim (cases_Bool (is_kept (of_station p.station.0 ps) p.key)) [
+          | inl is ↦ ap (of_station s) (kept_packets-push ps p is) ∙ of_station-push_other s (kept_packets ps) p other ∙ before ∙ sym same
+          | inr is ↦ ap (of_station s) (kept_packets-push_repeat ps p is) ∙ before ∙ sym same
+        ]
 
--- The kept packets of a station are the kept ones of its packets.
-pub of_station-kept_packets : (s : ℕ) (ps : List Packet) → of_station s (kept_packets ps) ≡ kept (of_station s ps)
-of_station-kept_packets s = by_push (λ ps. of_station s (kept_packets ps) ≡ kept (of_station s ps)) refl (λ ps p before.
-    elim (cases_Bool (p.station.0 == s)) [
-      | inl own ↦ kept_of_station-push s ps p before (eqb-true p.station.0 s own)
-      | inr other ↦ kept_of_station-push_other s ps p before other
-    ])
+  -- The kept packets of a station are the kept ones of its packets.
+  pub of_station-kept_packets : (s : ℕ) (ps : List Packet) → of_station s (kept_packets ps) ≡ kept (of_station s ps)
+  of_station-kept_packets s = by_push (λ ps. of_station s (kept_packets ps) ≡ kept (of_station s ps)) refl (λ ps p before.
+      elim (cases_Bool (p.station.0 == s)) [
+        | inl own ↦ kept_of_station-push s ps p before (eqb-true p.station.0 s own)
+        | inr other ↦ kept_of_station-push_other s ps p before other
+      ])
 
--- what a history of the kept packets has of a station
-pub packets_of-kept : (s : ℕ) (history : List Entry) (ps : List Packet) → HoldsKept history ps → packets_of s history ≡ kept (of_station s ps)
-packets_of-kept s history ps holds = ap (of_station s) holds ∙ of_station-kept_packets s ps
+  -- what a history of the kept packets has of a station
+  pub packets_of-kept : (s : ℕ) (history : List Entry) (ps : List Packet) → HoldsKept history ps → packets_of s history ≡ kept (of_station s ps)
+  packets_of-kept s history ps holds = ap (of_station s) holds ∙ of_station-kept_packets s ps
 
 module _ (history : List Entry) (ps : List Packet) (holds : HoldsKept history ps) where
   pub HoldsKept-repeat : (p : Packet) → is_kept (of_station p.station.0 ps) p.key ≡ false → HoldsKept history (ps ++ p ∷ [])
@@ -91,21 +93,22 @@ module _ (history : List Entry) (ps : List Packet) (holds : HoldsKept history ps
   pub HoldsKept-push : (e : Entry) → is_kept (of_station e.station.0 ps) e.key ≡ true → HoldsKept (history ++ e ∷ []) (ps ++ packet_of e ∷ [])
   HoldsKept-push e is = map-append packet_of history (e ∷ []) ∙ ap (λ k. k ++ packet_of e ∷ []) holds ∙ sym (kept_packets-push ps (packet_of e) is)
 
-  -- An entry that is right after all packets of its station is right after the history of the kept ones.
+-- An entry that is right after all packets of its station is right after the history of the kept ones.
+module _ (joins : Joins) (repeats : Repeats) (alone : Alone) (same : Same) (history : List Entry) (ps : List Packet) (holds : HoldsKept history ps) where
   pub IsEntryAfter-from_packets : (setup : Setup) (stations : ℕ) (e : Entry) → e.station.0 < stations → e.lane.0 ≡ e.station.0 % setup.lanes
       → IsEntryOf setup (of_station e.station.0 ps) (packet_of e) e → IsEntryAfter setup stations history e
   IsEntryAfter-from_packets setup stations e listed lane entry =
       let own = of_station e.station.0 ps in
-      let of_history : packets_of e.station.0 history ≡ kept own = packets_of-kept e.station.0 history ps holds in
+      let of_history : packets_of e.station.0 history ≡ kept own = packets_of-kept joins repeats e.station.0 history ps holds in
       let more : marked (packets_of e.station.0 (history ++ e ∷ [])) ≡ marked (own ++ (e.key, e.wave) ∷ []) =
-      ap marked (packets_of-kept e.station.0 (history ++ e ∷ []) (ps ++ packet_of e ∷ []) (HoldsKept-push e entry.kept))
-      ∙ marked-kept (of_station e.station.0 (ps ++ packet_of e ∷ []))
+      ap marked (packets_of-kept joins repeats e.station.0 (history ++ e ∷ []) (ps ++ packet_of e ∷ []) (HoldsKept-push history ps holds e entry.kept))
+      ∙ ap (marked_after None) (alone (of_station e.station.0 (ps ++ packet_of e ∷ [])))
       ∙ ap marked (of_station-push e.station.0 ps (packet_of e) refl) in
       record {
         listed = listed;
         lane = lane;
-        kept = ap (λ k. is_kept k e.key) of_history ∙ is_kept-kept own e.key ∙ entry.kept;
-        fresh = entry.fresh ∙ ap (λ o. is_fresh o e.key) (sym (ap last_kept of_history ∙ last_kept-kept own));
+        kept = ap (λ k. is_kept k e.key) of_history ∙ same own e.key ∙ entry.kept;
+        fresh = entry.fresh ∙ ap (λ o. is_fresh o e.key) (sym (ap last_kept of_history ∙ ap (λ k. option_map (λ p. p.0) (last k)) (alone own)));
         value = subst (λ m. IsValue setup.levels (amplitudes_of setup.gain (samples_since_gap m)) e.value) (sym more) entry.value;
       }
 
@@ -152,7 +155,7 @@ module _ (setup : Setup) (history : List Entry) (ps : List Packet) (packet : Pac
     HoldsKept-station_push =
         subst (λ p. HoldsKept (history ++ e ∷ []) (ps ++ p ∷ [])) entry.same_packet (HoldsKept-push history ps holds e own.kept)
 
-    pub IsValidHistory-station_push : IsValidHistory setup 1 history → IsValidHistory setup 1 (history ++ e ∷ [])
-    IsValidHistory-station_push valid =
+    pub IsValidHistory-station_push : Joins → Repeats → Alone → Same → IsValidHistory setup 1 history → IsValidHistory setup 1 (history ++ e ∷ [])
+    IsValidHistory-station_push joins repeats alone same valid =
         let lane : e.lane.0 ≡ e.station.0 % setup.lanes = entry.lane ∙ sym (zero_lane setup.lanes setup.lanes_in_range.0) ∙ ap (λ s. s % setup.lanes) (sym station_is) in
-        IsValidHistory-push setup 1 history e valid (IsEntryAfter-from_packets history ps holds setup 1 e (omega (arith, station_is)) lane own)
+        IsValidHistory-push setup 1 history e valid (IsEntryAfter-from_packets joins repeats alone same history ps holds setup 1 e (omega (arith, station_is)) lane own)

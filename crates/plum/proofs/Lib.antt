@@ -2,8 +2,7 @@ pub mod Words
 pub mod Shown
 pub mod Reading
 pub mod Pushes
-pub mod Kept
-pub mod Judged
+pub mod KeyLaws
 pub mod Stations
 pub mod Histories
 pub mod Predictions

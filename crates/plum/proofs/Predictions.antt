@@ -9,7 +9,7 @@ use Rattle.plum_base.specs.declared.numbers.Tenths.{Tenths}
 use Rattle.plum_base.specs.declared.sites.StationSite.{StationSite}
 use Rattle.plum_base.specs.declared.sites.TargetSite.{TargetSite}
 use Rattle.plum.proofs.Pushes.{slice_get_after}
-use Rattle.plum.specs.Prediction.{shown, corrected, IsNear, Reports, IsPrediction}
+use Rattle.plum_geo.specs.Prediction.{shown, corrected, IsNear, Reports, IsPrediction}
 
 module _ {X : Type 0} where
   -- an element of a list is one of the longer list

@@ -1,6 +1,5 @@
 -- A list with one more element at its end.
-use Rattle.std.proofs.Common.{◌≡◌, ◌-◌, Bool, true, false, List, [], ◌∷◌, ◌++◌, length, Some, refl, sym, ◌∙◌, ap, subst, arith, append-nil, append_assoc}
-use Rattle.std.proofs.lemmas.List.{length_push}
+use Rattle.std.proofs.Common.{◌≡◌, Bool, true, false, List, [], ◌∷◌, ◌++◌, length, Some, refl, sym, subst, append-nil, append_assoc}
 use Rattle.std.specs.Prelude.{if◌then◌else◌, slice_get}
 
 -- what holds of no element, and of one more at the end, holds of each list
@@ -20,9 +19,3 @@ if-append false x xs ys = refl
 pub slice_get_after : {X : Type 0} (xs : List X) (x : X) → slice_get (xs ++ x ∷ []) (length xs) ≡ Some x
 slice_get_after [] x = refl
 slice_get_after (y ∷ ys) x = slice_get_after ys x
-
--- the last element
-pub slice_get_last : {X : Type 0} (xs : List X) (x : X) → slice_get (xs ++ x ∷ []) (length (xs ++ x ∷ []) - 1) ≡ Some x
-slice_get_last xs x =
-    let last : length (xs ++ x ∷ []) - 1 ≡ length xs = omega (arith, length_push xs x) in
-    ap (slice_get (xs ++ x ∷ [])) last ∙ slice_get_after xs x

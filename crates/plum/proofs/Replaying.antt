@@ -9,7 +9,7 @@ use Rattle.plum_base.specs.Sites.{areas_of}
 use Rattle.std.specs.Prelude.{slice_get}
 use Rattle.plum_host.specs.declared.host.To.TheVariants.{Out, Journal}
 use Rattle.plum_host.specs.Told.{Appends}
-use Rattle.plum_engine.specs.Keys.{is_kept}
+use Rattle.plum_seq.specs.Keys.{is_kept}
 use Rattle.plum.specs.declared.text.lines.Counts.{Counts}
 use Rattle.plum.specs.History.{packet_of, of_station, kept_packets_after, HoldsKept, IsValidHistory}
 use Rattle.plum.specs.Replayed.{IsOneSegment, IsReplay}

@@ -11,7 +11,7 @@ use Rattle.plum_base.specs.Levels.{Table, IsLevelTable}
 use Rattle.plum_engine.specs.Engine.{IsValueOf}
 use Rattle.plum_engine.specs.Level.{IsValue}
 use Rattle.plum.specs.History.{packet_of, of_station, packets_of, IsEntryAfter, IsValidHistory}
-use Rattle.plum.specs.Prediction.{none_or_on_scale, shown}
+use Rattle.plum_geo.specs.Prediction.{none_or_on_scale, shown}
 use Rattle.plum.proofs.Histories.{of_station-push_other}
 use Rattle.plum.proofs.Pushes.{by_push}
 use Rattle.plum.proofs.Shown.{last_value-push, last_value-push_other}

@@ -1,12 +1,11 @@
 -- Histories: the entries of kept packets, in order.
-use Rattle.std.specs.Prelude.{◌≡◌, ℕ, ◌-◌, ◌%◌, ◌<◌, true, ◌==◌, if◌then◌else◌, List, [], ◌∷◌, ◌++◌, length, map, filter, slice_get, All, Option}
-use Rattle.std.specs.Option.{option_map}
+use Rattle.std.specs.Prelude.{◌≡◌, ℕ, ◌%◌, ◌<◌, true, ◌==◌, if◌then◌else◌, List, [], ◌∷◌, ◌++◌, map, filter, All}
 use Rattle.plum_base.specs.declared.entry.Entry.{Entry}
 use Rattle.plum_base.specs.declared.packet.Packet.{Packet}
 use Rattle.plum_base.specs.declared.numbers.Key.{Key}
 use Rattle.plum_base.specs.declared.wave.Sample.{Sample}
 use Rattle.plum_base.specs.declared.setup.Setup.{Setup}
-use Rattle.plum_engine.specs.Keys.{is_kept, kept, is_fresh}
+use Rattle.plum_seq.specs.Keys.{is_kept, last_kept, is_fresh}
 use Rattle.plum_engine.specs.Engine.{IsValueOf}
 
 -- the packet of an entry
@@ -20,14 +19,6 @@ of_station station packets = map (λ p. (p.key, p.wave)) (filter (λ p. p.statio
 -- the packets of a station in a history
 abbrev pub packets_of : ℕ → List Entry → List (Key × List Sample)
 packets_of station history = of_station station (map packet_of history)
-
--- the last of these, none where there is none
-abbrev pub last : {X : Type 0} → List X → Option X
-last xs = slice_get xs (length xs - 1)
-
--- the key of the last kept one of a station's packets
-abbrev pub last_kept : {W : Type 0} → List (Key × W) → Option Key
-last_kept packets = option_map (λ p. p.0) (last (kept packets))
 
 -- The entry is correct, given those before it, where there are this many stations.
 pub record IsEntryAfter (setup : Setup) (stations : ℕ) (earlier : List Entry) (e : Entry) : Type 0 where

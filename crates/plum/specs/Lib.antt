@@ -1,9 +1,7 @@
 pub mod Job
 pub mod Bodies
 pub mod History
-pub mod Judged
 pub mod Station
-pub mod Prediction
 pub mod Classes
 pub mod Lines
 pub mod Fields

@@ -6,10 +6,10 @@ use Rattle.plum_base.specs.declared.numbers.Key.{Key}
 use Rattle.plum_base.specs.declared.setup.Setup.{Setup}
 use Rattle.plum_base.specs.declared.wave.Sample.{Sample}
 use Rattle.plum_engine.specs.Engine.{StandsFor, IsValueOf}
-use Rattle.plum_engine.specs.Keys.{is_kept, is_fresh, marked}
+use Rattle.plum_seq.specs.Keys.{is_kept, last_kept, is_fresh, marked}
+use Rattle.plum_seq.specs.Judged.{Knows}
 use Rattle.plum.specs.declared.history.station.Station.{Station}
-use Rattle.plum.specs.History.{packet_of, last_kept}
-use Rattle.plum.specs.Judged.{Knows}
+use Rattle.plum.specs.History.{packet_of}
 
 -- A station of this setup was given these packets since it was made.
 pub record Stands (station : Station) (setup : Setup) (packets : List (Key × List Sample)) : Type 0 where

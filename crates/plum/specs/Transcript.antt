@@ -11,7 +11,7 @@ use Rattle.plum_base.specs.declared.sites.StationSite.{StationSite}
 use Rattle.plum_base.specs.declared.sites.TargetSite.{TargetSite}
 use Rattle.plum_base.specs.Sites.{Lists, areas_of}
 use Rattle.plum.specs.History.{packet_of, IsValidHistory, kept_packets_after}
-use Rattle.plum.specs.Prediction.{IsPrediction}
+use Rattle.plum_geo.specs.Prediction.{IsPrediction}
 
 -- the journal, cut into the parts of the segments, and for each mark a reading for each area
 pub record Transcript : Type 0 where

@@ -1,6 +1,5 @@
 //! From the packets of a capture to its history.
 
-pub mod keys;
 pub mod station;
 
 ghost use Rattle.std.specs.Prelude.{◌≡◌, IfOk};
@@ -9,6 +8,7 @@ ghost use Rattle.plum_engine.specs.Engine.{pass_through};
 
 use crate::history::station::Station;
 use plum_base::{Entry, NoMemory, Packet, Setup};
+use plum_seq::kept_keys;
 use std::alloc::Global;
 
 /// The entries of the kept packets, in file order. All packets are of station 0.
@@ -22,6 +22,8 @@ pub fn history_of(
     ensures valid { IfOk result (λ history. IsValidHistory setup.now 1 history.items) }
     ensures complete { IfOk result (λ history. HoldsKept history.items packets.items) }
 {
+    // For the contract: a history of the kept packets says of the keys what all packets say.
+    kept_keys();
     let mut station = Station::new(alloc, setup)?;
     let mut history = Vec::new(alloc);
     for packet in packets {

@@ -8,35 +8,10 @@ ghost use Rattle.plum_base.specs.Sites.{IsPlace};
 ghost use Rattle.plum_base.specs.Levels.{IsFactor, IsLevelTable};
 ghost use Rattle.plum_engine.specs.Engine.{IsValueOf};
 ghost use Rattle.plum.specs.History.{packets_of, IsValidHistory};
-ghost use Rattle.plum.specs.Prediction.{none_or_on_scale, shown, corrected, IsOnScale, IsNear, IsPrediction};
+ghost use Rattle.plum_geo.specs.Prediction.{none_or_on_scale, shown, corrected, IsOnScale, IsNear, IsPrediction};
 
-use plum_base::{Entry, Point, StationNo, StationSite, TargetSite, Tenths};
-
-/// The radius of PLUM, in metres.
-const RADIUS: u64 = 30_000;
-
-/// How far two coordinates of the grid are apart, in metres.
-fn apart(a: i32, b: i32) -> u64
-    requires a_low { pos 0 ≤ℤ a }
-    requires a_high { a ≤ℤ pos 4194303 }
-    requires b_low { pos 0 ≤ℤ b }
-    requires b_high { b ≤ℤ pos 4194303 }
-    ensures value { result ≡ nat_abs (a -ℤ b) }
-    ensures bound { result ≤ 4194303 }
-{
-    u64::from(a.abs_diff(b))
-}
-
-/// Whether the place is within the radius, the boundary included.
-fn is_near(a: Point, b: Point) -> bool
-    requires a_on_grid { IsPlace a }
-    requires b_on_grid { IsPlace b }
-    ensures { IsTrue result ↔ IsNear a b }
-{
-    let dx = apart(a.x, b.x);
-    let dy = apart(a.y, b.y);
-    dx * dx + dy * dy <= RADIUS * RADIUS
-}
+use plum_base::{Entry, StationNo, StationSite, TargetSite, Tenths};
+use plum_geo::near;
 
 /// What a station shows after these entries.
 fn shown(history: &[Entry], station: StationNo) -> Option<Tenths>
@@ -87,7 +62,7 @@ fn said_by(
         × (value : Tenths) × (shown history.now station.0 ≡ Some value) × (t.0 ≡ corrected site.now target.now value)) }
     ensures none { IfNone result (IsNear site.now.at target.now.at → shown history.now station.0 ≡ None) }
 {
-    if !is_near(site.at, target.at) {
+    if !near(site.at, target.at) {
         return None;
     }
     let value = shown(history, station)?;

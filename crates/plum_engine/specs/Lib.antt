@@ -1,4 +1,3 @@
-pub mod Keys
 pub mod Run
 pub mod Signal
 pub mod Level

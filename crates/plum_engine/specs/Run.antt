@@ -3,7 +3,7 @@ use Rattle.std.specs.Prelude.{Bool, if◌then◌else◌, List, [], ◌∷◌}
 use Rattle.std.specs.List.{flat_map, list_any}
 use Rattle.plum_base.specs.declared.numbers.Key.{Key}
 use Rattle.plum_base.specs.declared.wave.Sample.{Sample}
-use Rattle.plum_engine.specs.Keys.{marked}
+use Rattle.plum_seq.specs.Keys.{marked}
 
 -- the packets from the last fresh one on; all of them where none is fresh
 abbrev pub since_gap : {W : Type 0} → List (Bool × W) → List (Bool × W)

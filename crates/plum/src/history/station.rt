@@ -7,15 +7,15 @@ ghost use Rattle.plum_base.specs.declared.wave.Sample.{Sample};
 ghost use Rattle.plum_engine.specs.Engine.{pass_through};
 ghost use Rattle.plum.specs.Station.{Stands, Gives};
 
-use crate::history::keys::{Keys, Verdict};
 use plum_base::{Entry, LaneNo, NoMemory, Packet, Setup};
 use plum_engine::Engine;
+use plum_seq::{Seq, Verdict, kept_keys};
 use std::alloc::Global;
 
 /// One station at work.
 #[derive(Drop)]
 pub struct Station {
-    keys: Keys,
+    keys: Seq,
     engine: Engine,
 }
 
@@ -26,7 +26,7 @@ impl Station {
         ensures { IfOk result (λ station. Stands station setup.now []) }
     {
         Ok(Station {
-            keys: Keys::new(),
+            keys: Seq::new(),
             engine: Engine::new(alloc, setup)?,
         })
     }
@@ -38,6 +38,8 @@ impl Station {
         ensures entry { (setup : Setup) (packets : List (Key × List Sample)) → Stands self.old setup packets
             → Gives setup packets packet result }
     {
+        // For the contract: what the packet does to the kept ones.
+        kept_keys();
         let fresh = match self.keys.judge(packet.key) {
             Verdict::Repeat { .. } => return None,
             Verdict::Fresh => true,

@@ -1,7 +1,7 @@
 use Rattle.std.proofs.Common.{take}
 use Rattle.std.proofs.lemmas.List.{take_all, take_more}
 use Rattle.std.proofs.lemmas.Slice.Zip.{all_zipped_more}
-use Rattle.plum.specs.Prediction.{IsPrediction}
+use Rattle.plum_geo.specs.Prediction.{IsPrediction}
 use Rattle.plum.proofs.area.read_area.Goals as goal
 
 -- one target more

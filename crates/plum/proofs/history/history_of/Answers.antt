@@ -11,10 +11,11 @@ loop-packet-preserved-in-Continue-branch-2 c =
     let packet = c.in-Some.packet in
     let rest = rw c.in-Some.ensures.steps.0 at before.rest in
     let first : packet.station.0 ≡ 0 = All-head (λ p. p.station.0 ≡ 0) packet _ rest in
+    let law = c.kept_keys.ensures in
     let entry = c.in-Some-take.ensures.entry _ _ before.stands in
     record {
       stands = rw (of_station-push 0 yielded packet first) (c.take.ensures.stands _ _ before.stands);
-      valid = rw c.in_ok-push.ensures.items (IsValidHistory-station_push _ _ yielded packet first before.complete _ entry before.valid);
+      valid = rw c.in_ok-push.ensures.items (IsValidHistory-station_push _ _ yielded packet first before.complete _ entry law.joins law.repeat law.alone law.same before.valid);
       complete = rw c.in_ok-push.ensures.items (HoldsKept-station_push _ _ yielded packet first before.complete _ entry);
       rest = All-tail (λ p. p.station.0 ≡ 0) packet _ rest;
     }

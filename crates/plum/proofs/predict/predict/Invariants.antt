@@ -1,5 +1,5 @@
 use Rattle.std.proofs.Common.{take}
-use Rattle.plum.specs.Prediction.{IsPrediction}
+use Rattle.plum_geo.specs.Prediction.{IsPrediction}
 use Rattle.plum.proofs.predict.predict.Given as goal
 
 -- the prediction over the stations so far

@@ -1,7 +1,7 @@
 use Rattle.std.proofs.Common.{◌&&◌, ◌==◌, Bool, sym, ◌∙◌}
 use Rattle.std.proofs.lemmas.List.{take_more}
 use Rattle.plum_base.specs.declared.entry.Entry.{Entry}
-use Rattle.plum.specs.Prediction.{none_or_on_scale}
+use Rattle.plum_geo.specs.Prediction.{none_or_on_scale}
 use Rattle.plum.proofs.Shown.{last_value-push, last_value-push_other}
 use Rattle.plum.proofs.predict.shown.Goals as goal
 use Rattle.plum.proofs.predict.shown.Goals.{then-is_shown_by, else-is_shown_by}

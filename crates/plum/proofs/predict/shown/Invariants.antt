@@ -1,6 +1,6 @@
 use Rattle.std.proofs.Common.{◌≡◌, take}
 use Rattle.std.specs.Prelude.{IfSome}
-use Rattle.plum.specs.Prediction.{shown, IsOnScale}
+use Rattle.plum_geo.specs.Prediction.{shown, IsOnScale}
 use Rattle.plum.proofs.predict.shown.Given as goal
 
 abbrev pub invariant-loop-entry : goal.invariant-loop-entry

@@ -1,9 +1,8 @@
 use Rattle.std.proofs.Common.{◌≡◌, true, List, refl, sym, ◌∙◌}
 use Rattle.plum_base.specs.declared.numbers.Key.{Key}
 use Rattle.plum_base.specs.declared.wave.Sample.{Sample}
-use Rattle.plum_engine.specs.Keys.{is_kept, is_fresh}
-use Rattle.plum.specs.History.{last_kept}
-use Rattle.plum.specs.Judged.{Knows}
+use Rattle.plum_seq.specs.Keys.{is_kept, last_kept, is_fresh}
+use Rattle.plum_seq.specs.Judged.{Knows}
 use Rattle.plum.proofs.Stations.{Stands-repeat, Stands-kept, IsValueOf-kept}
 use Rattle.plum.proofs.history.station.Station.take.Goals as goal
 use Rattle.plum.proofs.history.station.Station.take.Goals.{in-Fresh, in-Continues}
@@ -11,7 +10,7 @@ use Rattle.plum.proofs.history.station.Station.take.Goals.{in-Fresh, in-Continue
 pub returns-in-Repeat-clause-stands : goal.returns-in-Repeat-clause-stands
 returns-in-Repeat-clause-stands c = λ setup packets before.
     let verdict = c.in-Repeat.ensures.verdict packets before.keys in
-    Stands-repeat setup packets _ _ _ before (c.judge.ensures.knows packets _ before.keys) verdict.0 refl
+    Stands-repeat setup packets _ c.kept_keys.ensures.repeat _ _ before (c.judge.ensures.knows packets _ before.keys) verdict.0 refl
 
 pub returns : goal.returns
 returns c =
@@ -24,7 +23,7 @@ returns c =
     ] in
     record {
       stands = λ setup packets before.
-          Stands-kept setup packets _ _ (judged packets before.keys) _ (c.judge.ensures.knows packets c.args.packet.wave before.keys) (c.absorb-value.ensures.stands _ _ _ before.engine);
+          Stands-kept setup packets _ c.kept_keys.ensures.marks _ (judged packets before.keys) _ (c.judge.ensures.knows packets c.args.packet.wave before.keys) (c.absorb-value.ensures.stands _ _ _ before.engine);
       entry = λ setup packets before.
           let kept_fresh = judged packets before.keys in
           record {
@@ -32,6 +31,6 @@ returns c =
             lane = refl;
             kept = kept_fresh.0;
             fresh = kept_fresh.1;
-            value = IsValueOf-kept setup packets _ _ kept_fresh _ (c.absorb-value.ensures.value _ _ _ before.engine);
+            value = IsValueOf-kept setup packets _ c.kept_keys.ensures.marks _ kept_fresh _ (c.absorb-value.ensures.value _ _ _ before.engine);
           };
     }

@@ -1,7 +1,8 @@
 -- Which packets of a station are kept, and which of these start a new run (the project's own rule of keys). A packet
 -- is a pair of its key and what it carries.
-use Rattle.std.specs.Prelude.{◌+◌, Bool, true, not, ◌&&◌, ◌||◌, ◌==◌, nat_lt, if◌then◌else◌, List, [], ◌∷◌, ◌++◌, Option, Some, None}
+use Rattle.std.specs.Prelude.{◌+◌, ◌-◌, Bool, true, not, ◌&&◌, ◌||◌, ◌==◌, nat_lt, if◌then◌else◌, List, [], ◌∷◌, ◌++◌, length, slice_get, Option, Some, None}
 use Rattle.std.specs.List.{list_all}
+use Rattle.std.specs.Option.{option_map}
 use Rattle.plum_base.specs.declared.numbers.Key.{Key}
 
 -- by boot, and then by number
@@ -21,6 +22,14 @@ kept_after earlier (p ∷ ps) =
 -- the kept ones of a station's packets
 abbrev pub kept : {W : Type 0} → List (Key × W) → List (Key × W)
 kept packets = kept_after [] packets
+
+-- the last of these, none where there is none
+abbrev pub last : {X : Type 0} → List X → Option X
+last xs = slice_get xs (length xs - 1)
+
+-- the key of the last kept one of a station's packets
+abbrev pub last_kept : {W : Type 0} → List (Key × W) → Option Key
+last_kept packets = option_map (λ p. p.0) (last (kept packets))
 
 -- the same boot, and the next number
 abbrev pub continues : Key → Key → Bool

@@ -1,9 +1,8 @@
 -- Predictions by PLUM (Kodera and others 2018): no source is estimated. The prediction at a target is the greatest
 -- intensity less site factor that a reporting station within 30 km shows, plus the target's factor.
-use Rattle.std.specs.Prelude.{◌≡◌, ℕ, Bool, true, ◌&&◌, ◌==◌, int_le, ℤ, pos, neg_ℤ, ◌+ℤ◌, ◌-ℤ◌, ◌≤ℤ◌, ◌+◌, ◌*◌, ◌≤◌, List, filter, Option, Some, None, slice_get}
+use Rattle.std.specs.Prelude.{◌≡◌, ℕ, Bool, true, ◌&&◌, ◌==◌, int_le, ℤ, pos, nat_abs, neg_ℤ, ◌+ℤ◌, ◌-ℤ◌, ◌≤ℤ◌, ◌+◌, ◌*◌, ◌≤◌, List, filter, Option, Some, None, slice_get}
+use Rattle.std.specs.List.{last_or}
 use Rattle.std.specs.Option.{option_and_then}
-use Rattle.plum_engine.specs.Signal.{square}
-use Rattle.plum.specs.History.{last}
 use Rattle.plum_base.specs.declared.entry.Entry.{Entry}
 use Rattle.plum_base.specs.declared.numbers.Point.{Point}
 use Rattle.plum_base.specs.declared.numbers.Tenths.{Tenths}
@@ -26,11 +25,15 @@ shown_entries history station = filter (λ e. (e.station.0 == station) && none_o
 -- What a station shows in a history: the value of its last entry there, none where it has no entry. An entry whose
 -- value is off the scale is passed over; a valid history has none.
 abbrev pub shown : List Entry → ℕ → Option Tenths
-shown history station = option_and_then (λ e. e.value) (last (shown_entries history station))
+shown history station = option_and_then (λ e. e.value) (last_or None (shown_entries history station))
+
+-- the square of the distance of two places, in square metres
+abbrev pub distance_squared : Point → Point → ℕ
+distance_squared a b = nat_abs (a.x -ℤ b.x) * nat_abs (a.x -ℤ b.x) + nat_abs (a.y -ℤ b.y) * nat_abs (a.y -ℤ b.y)
 
 -- within 30 km, the boundary included
 abbrev pub IsNear : Point → Point → Type 0
-IsNear a b = square (a.x -ℤ b.x) + square (a.y -ℤ b.y) ≤ 30000 * 30000
+IsNear a b = distance_squared a b ≤ 30000 * 30000
 
 -- Station n is near the target and shows this value in the history.
 pub record Reports (stations : List StationSite) (history : List Entry) (target : TargetSite) (n : ℕ) (value : Tenths) : Type 0 where

@@ -1,6 +1,6 @@
 use Rattle.std.proofs.Common.{arith}
 use Rattle.std.proofs.Math.Nat.{mul-le-mul}
-use Rattle.plum.proofs.predict.is_near.Goals as goal
+use Rattle.plum_geo.proofs.distance.near.Goals as goal
 
 -- each square is at most that of the grid's width
 pub overflow_add-result : goal.overflow_add-result

@@ -1,10 +1,10 @@
-//! Which packets are kept, and which of them start a new run.
+//! Judging the keys of a station's packets, one after another.
 
-ghost use Rattle.std.specs.Prelude.{◌≡◌, List, [], ◌∷◌, ◌++◌};
+ghost use Rattle.std.specs.Prelude.{◌≡◌, ◌≢◌, ◌↔◌, false, List, [], ◌∷◌, ◌++◌, Some};
 ghost use Rattle.plum_base.specs.declared.numbers.Key.{Key};
 ghost use Rattle.plum_base.specs.declared.wave.Sample.{Sample};
-ghost use Rattle.plum_engine.specs.Keys.{continues};
-ghost use Rattle.plum.specs.Judged.{Knows, IsVerdict};
+ghost use Rattle.plum_seq.specs.Keys.{is_below, continues};
+ghost use Rattle.plum_seq.specs.Judged.{Knows, IsVerdict};
 
 use plum_base::Key;
 use std::marker::Model;
@@ -22,40 +22,46 @@ pub enum Verdict {
 
 /// The keys of one station's packets so far. Contracts see the last kept one.
 #[derive(Drop)]
-pub struct Keys {
+pub struct Seq {
     /// The last kept one, which is the greatest.
     last: Option<Key>,
 }
 
-impl Model for Keys {
+impl Model for Seq {
     ghost use Rattle.std.specs.Prelude.{Option};
     ghost use Rattle.plum_base.specs.declared.numbers.Key.{Key};
 
     ghost Value = { Option Key };
 
-    ghost view = { λ k. k.last };
+    ghost view = { λ s. s.last };
 }
 
-impl Keys {
+impl Seq {
     /// No packet came yet.
-    pub fn new() -> Keys
+    pub fn new() -> Seq
         ensures { Knows {W = List Sample} result [] }
     {
-        Keys { last: None }
+        Seq { last: None }
     }
 
     /// Judges the next key, and keeps it unless it is a repeat.
     pub fn judge(&mut self, key: Key) -> Verdict
+        // Over all packets so far.
         ensures knows { (packets : List (Key × List Sample)) (samples : List Sample) → Knows self.old packets
             → Knows self.new (packets ++ (key, samples) ∷ []) }
         ensures verdict { (packets : List (Key × List Sample)) → Knows self.old packets → IsVerdict packets key result }
-        ensures repeat { (last : Key) → result ≡ Verdict.Repeat last → self.new ≡ self.old }
+
+        // Over the last kept key alone: a repeat is told exactly where the key is not greater, and changes nothing. Any
+        // other key becomes the last kept one.
+        ensures repeat { (last : Key) → (result ≡ Verdict.Repeat last) ↔ ((self.old ≡ Some last) × (is_below last key ≡ false)) }
+        ensures unchanged { (last : Key) → result ≡ Verdict.Repeat last → self.new ≡ self.old }
+        ensures keeps { ((last : Key) → result ≢ Verdict.Repeat last) → self.new ≡ Some key }
     {
         let Some(last) = self.last else {
             self.last = Some(key);
             return Verdict::Fresh;
         };
-        if key <= last {
+        if !is_above(last, key) {
             return Verdict::Repeat { last };
         }
         self.last = Some(key);
@@ -65,6 +71,13 @@ impl Keys {
             Verdict::Fresh
         }
     }
+}
+
+/// Whether `key` is greater than `last`.
+fn is_above(last: Key, key: Key) -> bool
+    ensures { result ≡ is_below last key }
+{
+    last < key
 }
 
 /// Whether `key` has the boot of `last` and the number after it.

@@ -1,10 +1,9 @@
 -- The keys of a station's packets, judged one after another (the project's own rule of keys).
 use Rattle.std.specs.Prelude.{◌≡◌, true, false, List, [], Option, Some, All, MatchOption}
 use Rattle.plum_base.specs.declared.numbers.Key.{Key}
-use Rattle.plum_engine.specs.Keys.{is_below, is_kept, is_fresh}
-use Rattle.plum.specs.History.{last_kept}
-use Rattle.plum.specs.declared.history.keys.Verdict.{Verdict}
-use Rattle.plum.specs.declared.history.keys.Verdict.TheVariants.{Continues, Fresh, Repeat}
+use Rattle.plum_seq.specs.Keys.{is_below, is_kept, is_fresh, last_kept}
+use Rattle.plum_seq.specs.declared.seq.Verdict.{Verdict}
+use Rattle.plum_seq.specs.declared.seq.Verdict.TheVariants.{Continues, Fresh, Repeat}
 
 -- What is known after these packets: the key of the last kept one. No key of theirs is above it.
 pub record Knows {W : Type 0} (known : Option Key) (packets : List (Key × W)) : Type 0 where

@@ -6,9 +6,8 @@ use Rattle.std.proofs.lemmas.List.Folds.{list_all-append}
 use Rattle.std.specs.Prelude.{if◌then◌else◌, slice_get}
 use Rattle.std.specs.Option.{option_map}
 use Rattle.plum_base.specs.declared.numbers.Key.{Key}
-use Rattle.plum_engine.specs.Keys.{is_below, is_kept, kept_after, kept, is_fresh, marked_after, marked}
-use Rattle.plum.specs.History.{last_kept}
-use Rattle.plum.proofs.Pushes.{by_push, if-append, slice_get_last}
+use Rattle.plum_seq.specs.Keys.{is_below, is_kept, kept_after, kept, last_kept, is_fresh, marked_after, marked}
+use Rattle.plum_seq.proofs.Pushes.{by_push, if-append, slice_get_last}
 
 and_first : (a b : Bool) → (a ≡ true → b ≡ true) → (a && b) ≡ a
 and_first true b implies = implies refl

@@ -4,11 +4,10 @@ use Rattle.std.proofs.lemmas.Bool.{and_parts, cases_Bool}
 use Rattle.std.proofs.lemmas.Bool.Decides.{nat_tests}
 use Rattle.std.proofs.lemmas.List.Elements.{All-nil, All-cons, All-push}
 use Rattle.plum_base.specs.declared.numbers.Key.{Key}
-use Rattle.plum_engine.specs.Keys.{is_below, is_kept, is_fresh, continues}
-use Rattle.plum.specs.History.{last_kept}
-use Rattle.plum.specs.Judged.{Knows}
-use Rattle.plum.proofs.Kept.{is_above, is_kept-is_above, last_kept-push, last_kept-push_repeat}
-use Rattle.plum.proofs.Pushes.{by_push}
+use Rattle.plum_seq.specs.Keys.{is_below, is_kept, last_kept, is_fresh, continues}
+use Rattle.plum_seq.specs.Judged.{Knows}
+use Rattle.plum_seq.proofs.Kept.{is_above, is_kept-is_above, last_kept-push, last_kept-push_repeat}
+use Rattle.plum_seq.proofs.Pushes.{by_push}
 
 -- of two keys one is not above the other
 is_below-asymm : (a b : Key) → is_below a b ≡ true → is_below b a ≡ false

@@ -1,0 +1,27 @@
+-- What the law of keys says, clause by clause (`kept_keys` of the crate of keys).
+use Rattle.std.proofs.Common.{◌≡◌, true, false, List, [], ◌∷◌, ◌++◌}
+use Rattle.plum_base.specs.declared.numbers.Key.{Key}
+use Rattle.plum_base.specs.declared.wave.Sample.{Sample}
+use Rattle.plum_seq.specs.Keys.{is_kept, kept, last_kept, is_fresh, marked}
+
+-- a kept packet joins the kept ones
+abbrev pub Joins : Type 0
+Joins = (packets : List (Key × List Sample)) (p : Key × List Sample) → is_kept packets p.0 ≡ true → kept (packets ++ p ∷ []) ≡ kept packets ++ p ∷ []
+
+-- a repeat leaves the kept ones
+abbrev pub Repeats : Type 0
+Repeats = (packets : List (Key × List Sample)) (p : Key × List Sample) → is_kept packets p.0 ≡ false → kept (packets ++ p ∷ []) ≡ kept packets
+
+-- a kept packet is marked by the last kept key before it
+abbrev pub Marks : Type 0
+Marks =
+    (packets : List (Key × List Sample)) (p : Key × List Sample) → is_kept packets p.0 ≡ true
+    → marked (packets ++ p ∷ []) ≡ marked packets ++ (is_fresh (last_kept packets) p.0, p.1) ∷ []
+
+-- of the kept ones alone all are kept
+abbrev pub Alone : Type 0
+Alone = (packets : List (Key × List Sample)) → kept (kept packets) ≡ kept packets
+
+-- after the kept ones alone the same keys are kept
+abbrev pub Same : Type 0
+Same = (packets : List (Key × List Sample)) (key : Key) → is_kept (kept packets) key ≡ is_kept packets key
