@@ -36,7 +36,7 @@ pub fn run<H: Host>(alloc: Global, words: &[String], host: &mut H) -> Status
     ensures usage { (result ≡ Status.Usage) ↔ (job_of (map string_bytes words.now) ≡ None) }
     ensures idle { result ≡ Status.Usage → host.new ≡ host.old }
 
-    // The work done: the capture is read to its end, and its journal is appended.
+    // The work done: the capture is read to its end, and its two texts are appended.
     ensures headline { result ≡ Status.Done → (capture : List ℕ) → H.left host.old Capture ≡ Some capture
         → AppendsReplay capture (H.held host.old Journal) (H.held host.new Journal) (H.held host.old Out) (H.held host.new Out) }
     ensures segment { result ≡ Status.Done → (capture : List ℕ) → H.left host.old Capture ≡ Some capture
