@@ -1,9 +1,12 @@
 -- The areas of a list of targets, target by target.
-use Rattle.std.proofs.Common.{◌≡◌, ℕ, zero, suc, ◌+◌, ◌<◌, Bool, true, false, not, ◌||◌, cond, List, [], ◌∷◌, ◌++◌, length, map, filter, take, get_or, Any, nat_eq, refl, sym, ap, ◌∙◌, arith}
+use Rattle.std.proofs.Common.{◌≡◌, ◌↔◌, ℕ, zero, suc, ◌+◌, ◌<◌, Bool, true, false, not, ◌||◌, cond, List, [], ◌∷◌, ◌++◌, length, map, filter, take, get_or, slice_get, Some, Any, IsSomeAnd, nat_eq, refl, sym, ap, ◌∙◌, arith}
 use Rattle.std.specs.Cmp.Lexicographic.{pointwise, bytes_decides}
 use Rattle.std.specs.List.{list_any}
+use Rattle.std.proofs.lemmas.Bool.{false≢true, not_from_false, false_from_ne_true}
 use Rattle.std.proofs.lemmas.List.{take_more, map-append, append-nil, length_push}
 use Rattle.std.proofs.lemmas.List.Elements.{filter-append}
+use Rattle.std.proofs.lemmas.List.Folds.{Any-from_list_any, list_any-from_Any}
+use Rattle.plum_base.specs.declared.numbers.AreaNo.{AreaNo}
 use Rattle.plum_base.specs.declared.sites.TargetSite.{TargetSite}
 use Rattle.plum_base.specs.Sites.{first_appearances, areas_of}
 
@@ -61,3 +64,60 @@ pub areas_new : (ts : List TargetSite) (i : ℕ) (t : TargetSite) → i < length
 areas_new ts i t l at none =
     let s = unseen (λ u. u.area) (take i ts) t.area none in
     ap length (areas_more ts i t l at) ∙ ap (λ b. length (areas_of (take i ts) ++ cond b [] (t.area ∷ []))) s ∙ length_push (areas_of (take i ts)) t.area
+
+agree : (p b c : Bool) → (p ≡ false → b ≡ c) → (p || b) ≡ (p || c)
+agree true b c e = refl
+agree false b c e = e refl
+
+skipped : (p : Bool) (z : List ℕ) (zs : List (List ℕ)) (sought : List ℕ → Bool) → (sought z ≡ true → p ≡ true) → list_any sought (cond p (z ∷ zs) zs) ≡ (sought z || list_any sought zs)
+skipped true z zs sought passes = refl
+skipped false z zs sought passes =
+    let unsought : sought z ≡ false = false_from_ne_true (sought z) (λ t. false≢true (passes t)) in
+    ap (λ b. b || list_any sought zs) (sym unsought)
+
+-- a filter that what is sought passes
+any_filtered : (test sought : List ℕ → Bool) → ((z : List ℕ) → sought z ≡ true → test z ≡ true) → (zs : List (List ℕ)) → list_any sought (filter test zs) ≡ list_any sought zs
+any_filtered test sought passes [] = refl
+any_filtered test sought passes (z ∷ zs) =
+    skipped (test z) z (filter test zs) sought (passes z) ∙ ap (λ b. sought z || b) (any_filtered test sought passes zs)
+
+-- what appears is what stands in the list
+any_appears : (xs : List (List ℕ)) (y : List ℕ) → list_any (λ x. pointwise nat_eq x y) (first_appearances xs) ≡ list_any (λ x. pointwise nat_eq x y) xs
+any_appears [] y = refl
+any_appears (x ∷ xs) y =
+    let test : List ℕ → Bool = λ z. not (pointwise nat_eq x z) in
+    let sought : List ℕ → Bool = λ z. pointwise nat_eq z y in
+    agree (pointwise nat_eq x y) _ _ (λ e. any_filtered test sought (λ z s. not_from_false (pointwise nat_eq x z) (ap (λ w. pointwise nat_eq x w) ((bytes_decides z y).0 s) ∙ e)) (first_appearances xs) ∙ any_appears xs y)
+
+any_same : (xs : List (List ℕ)) (y : List ℕ) → (list_any (λ x. pointwise nat_eq x y) xs ≡ true) ↔ Any (λ x. x ≡ y) xs
+any_same xs y = (
+  λ t. let w = Any-from_list_any (λ x. pointwise nat_eq x y) xs t in (w.0, w.1, w.2, w.3, (bytes_decides w.1 y).0 w.4),
+  λ w. list_any-from_Any (λ x. pointwise nat_eq x y) xs (w.0, w.1, w.2, w.3, (bytes_decides w.1 y).1 w.4),
+)
+
+-- a target whose area is among those before
+pub areas_kept : (ts : List TargetSite) (i : ℕ) (t : TargetSite) → i < length ts → t ≡ get_or ts i t → Any (λ a. a ≡ t.area) (areas_of (take i ts)) → areas_of (take (i + 1) ts) ≡ areas_of (take i ts)
+areas_kept ts i t l at among =
+    let s = sym (any_appears (map (λ u. u.area) (take i ts)) t.area) ∙ (any_same (areas_of (take i ts)) t.area).1 among in
+    areas_more ts i t l at ∙ ap (λ b. areas_of (take i ts) ++ cond b [] (t.area ∷ [])) s ∙ append-nil (areas_of (take i ts))
+
+-- a target of another area
+pub areas_pushed : (ts : List TargetSite) (i : ℕ) (t : TargetSite) → i < length ts → t ≡ get_or ts i t → ¬ Any (λ a. a ≡ t.area) (areas_of (take i ts)) → areas_of (take (i + 1) ts) ≡ areas_of (take i ts) ++ t.area ∷ []
+areas_pushed ts i t l at among =
+    let none : list_any (λ a. pointwise nat_eq a t.area) (areas_of (take i ts)) ≡ false = false_from_ne_true _ (λ s. among ((any_same (areas_of (take i ts)) t.area).0 s)) in
+    let s = sym (any_appears (map (λ u. u.area) (take i ts)) t.area) ∙ none in
+    areas_more ts i t l at ∙ ap (λ b. areas_of (take i ts) ++ cond b [] (t.area ∷ [])) s
+
+-- each target's area is among all
+pub area_among : (ts : List TargetSite) (i : ℕ) (t : TargetSite) → i < length ts → t ≡ get_or ts i t → Any (λ a. a ≡ t.area) (areas_of ts)
+area_among ts i t l at =
+    (any_same (areas_of ts) t.area).0 (any_appears (map (λ u. u.area) ts) t.area ∙ seen (λ u. u.area) ts t.area i t l (sym at) refl)
+
+-- the number at a target is that of its area
+pub numbered_at : (areas : List (List ℕ)) (ts : List TargetSite) (ns : List AreaNo) (k : ℕ) (n : AreaNo) → map (λ m. slice_get areas m.0) ns ≡ map (λ t. Some t.area) ts → k < length ts → n ≡ get_or ns k n → IsSomeAnd (slice_get ts k) (λ t. slice_get areas n.0 ≡ Some t.area)
+numbered_at areas [] ns k n e l at = absurd (omega arith)
+numbered_at areas (t ∷ ts) [] k n e l at = cc
+numbered_at areas (t ∷ ts) (m ∷ ns) zero n e l at = cc
+numbered_at areas (t ∷ ts) (m ∷ ns) (suc k) n e l at =
+    let rest : map (λ m. slice_get areas m.0) ns ≡ map (λ t. Some t.area) ts = cc in
+    numbered_at areas ts ns k n rest (omega arith) at

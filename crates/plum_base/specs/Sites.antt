@@ -1,6 +1,7 @@
 -- What a list of stations and a list of targets must keep (the project's own limits).
-use Rattle.std.specs.Prelude.{◌≡◌, ◌≢◌, ℕ, not, ◌≤◌, pos, ◌≤ℤ◌, List, [], ◌∷◌, length, map, filter, slice_get, nat_eq, All, AllPairs, IsSomeAnd}
+use Rattle.std.specs.Prelude.{◌≡◌, ◌≢◌, ℕ, not, ◌≤◌, pos, ◌≤ℤ◌, List, [], ◌∷◌, Some, length, map, filter, slice_get, nat_eq, All, AllPairs, IsSomeAnd}
 use Rattle.std.specs.Cmp.Lexicographic.{pointwise}
+use Rattle.plum_base.specs.declared.numbers.AreaNo.{AreaNo}
 use Rattle.plum_base.specs.declared.numbers.Point.{Point}
 use Rattle.plum_base.specs.declared.sites.StationSite.{StationSite}
 use Rattle.plum_base.specs.declared.sites.TargetSite.{TargetSite}
@@ -38,3 +39,8 @@ pub record AreLawful (stations : List StationSite) (targets : List TargetSite) :
 -- the n-th station, from 0, has this code
 abbrev pub HasCode : List StationSite → ℕ → ℕ → Type 0
 HasCode stations n code = IsSomeAnd (slice_get stations n) (λ s. s.code ≡ code)
+
+-- the numbers, target by target, are those of the targets' areas
+abbrev pub AreNumbered : List TargetSite → List AreaNo → Type 0
+AreNumbered targets numbers =
+    map (λ n. slice_get (areas_of targets) n.0) numbers ≡ map (λ t. Some t.area) targets

@@ -1,13 +1,14 @@
 //! The stations and the targets of a centre.
 
-ghost use Rattle.std.specs.Prelude.{◌≡◌, ◌≢◌, ◌↔◌, ◌≤◌, length, All, AllPairs, Any, IsTrue, IfOk, IfSome, IfNone};
+ghost use Rattle.std.specs.Prelude.{◌≡◌, ◌≢◌, ◌↔◌, ◌<◌, ◌≤◌, length, slice_get, All, AllPairs, Any, IsTrue, IfOk, Some, IfSome, IfNone, IsSomeAnd};
+ghost use Rattle.std.specs.List.{HoldsAt};
 ghost use Rattle.plum_base.specs.Levels.{IsFactor};
-ghost use Rattle.plum_base.specs.Sites.{IsPlace, areas_of, AreLawful, HasCode};
+ghost use Rattle.plum_base.specs.Sites.{IsPlace, areas_of, AreNumbered, AreLawful, HasCode};
 
 use crate::levels::is_factor;
 use crate::memory::NoMemory;
 use crate::name::Name;
-use crate::numbers::{Point, StationNo, Tenths};
+use crate::numbers::{AreaNo, Point, StationNo, TargetNo, Tenths};
 use std::alloc::Global;
 use std::marker::Model;
 
@@ -43,29 +44,42 @@ const GRID_END: i32 = 4_194_303;
 pub struct Sites {
     stations: Vec<StationSite>,
     targets: Vec<TargetSite>,
+    /// The names of the areas, each at its number.
+    areas: Vec<Name>,
+    /// The area of each target.
+    numbers: Vec<AreaNo>,
 }
 
 impl Model for Sites {
-    ghost use Rattle.plum_base.specs.Sites.{Lists, AreLawful};
+    ghost use Rattle.std.specs.Prelude.{◌≡◌};
+    ghost use Rattle.plum_base.specs.Sites.{Lists, areas_of, AreNumbered, AreLawful};
 
     ghost Value = { Lists };
 
     ghost view = { λ s. record { stations = s.stations.items; targets = s.targets.items } };
 
-    ghost invariant = { λ s. AreLawful s.stations.items s.targets.items };
+    ghost invariant = { λ s. AreLawful s.stations.items s.targets.items
+        × (s.areas.items ≡ areas_of s.targets.items) × AreNumbered s.targets.items s.numbers.items };
 }
 
 impl Sites {
     /// Both lists, which the caller has tested by `lawful`.
     pub fn new(
-        _alloc: Global,
+        alloc: Global,
         stations: Vec<StationSite>,
         targets: Vec<TargetSite>,
     ) -> Result<Sites, NoMemory>
         requires { AreLawful stations.items targets.items }
         ensures { IfOk result (λ s. s ≡ record { stations = stations.items; targets = targets.items }) }
     {
-        Ok(Sites { stations, targets })
+        let areas = areas_in(alloc, targets.as_slice())?;
+        let numbers = numbers_in(alloc, targets.as_slice(), areas.as_slice())?;
+        Ok(Sites {
+            stations,
+            targets,
+            areas,
+            numbers,
+        })
     }
 
     /// The station with that code.
@@ -90,6 +104,93 @@ impl Sites {
     {
         self.targets.as_slice()
     }
+
+    /// How many areas the targets have.
+    pub fn areas(&self) -> u16
+        ensures { result ≡ length (areas_of self.now.targets) }
+    {
+        self.areas.len() as u16
+    }
+
+    /// The name of an area. Areas are numbered by first appearance, from 0.
+    pub fn area_name(&self, area: AreaNo) -> Name
+        requires { area.0 < length (areas_of self.now.targets) }
+        ensures { slice_get (areas_of self.now.targets) area.0 ≡ Some result }
+    {
+        copy_of(&self.areas[area.0 as usize])
+    }
+
+    /// The area of a target.
+    pub fn area_of(&self, target: TargetNo) -> AreaNo
+        requires { target.0 < length self.now.targets }
+        ensures { IsSomeAnd (slice_get self.now.targets target.0) (λ t. slice_get (areas_of self.now.targets) result.0 ≡ Some t.area) }
+    {
+        self.numbers[target.0 as usize]
+    }
+}
+
+fn copy_of(name: &Name) -> Name
+    ensures { result ≡ name.now }
+{
+    let Some(copy) = Name::read(name.as_slice()) else {
+        unreachable!()
+    };
+    copy
+}
+
+fn is_among(areas: &[Name], area: &Name) -> bool
+    ensures { IsTrue result ↔ Any (λ a. a ≡ area.now) areas.now }
+{
+    areas.iter().any(|a| *a == *area)
+}
+
+/// The names of the areas, each where it stands first.
+fn areas_in(alloc: Global, targets: &[TargetSite]) -> Result<Vec<Name>, NoMemory>
+    ensures { IfOk result (λ v. v.items ≡ areas_of targets.now) }
+{
+    let mut areas = Vec::new(alloc);
+    for target in targets {
+        if !is_among(areas.as_slice(), &target.area) {
+            areas.push(copy_of(&target.area))?;
+        }
+    }
+    Ok(areas)
+}
+
+fn place_of(areas: &[Name], area: &Name) -> Option<usize>
+    ensures found { IfSome result (λ k. (k < length areas.now) × HoldsAt (λ a. a ≡ area.now) areas.now k) }
+    ensures none { IfNone result (All (λ a. a ≢ area.now) areas.now) }
+{
+    areas.iter().position(|a| *a == *area)
+}
+
+/// The number of an area among at most 64.
+fn number_of(areas: &[Name], area: &Name) -> AreaNo
+    requires few { length areas.now ≤ 64 }
+    requires one { Any (λ a. a ≡ area.now) areas.now }
+    ensures { slice_get areas.now result.0 ≡ Some area.now }
+{
+    let Some(place) = place_of(areas, area) else {
+        unreachable!()
+    };
+    AreaNo(place as u16)
+}
+
+/// The number of each target's area.
+fn numbers_in(
+    alloc: Global,
+    targets: &[TargetSite],
+    areas: &[Name],
+) -> Result<Vec<AreaNo>, NoMemory>
+    requires few { length areas.now ≤ 64 }
+    requires all { areas.now ≡ areas_of targets.now }
+    ensures { IfOk result (λ v. AreNumbered targets.now v.items) }
+{
+    let mut numbers = Vec::new(alloc);
+    for target in targets {
+        numbers.push(number_of(areas, &target.area))?;
+    }
+    Ok(numbers)
 }
 
 /// Whether a place is on the grid.

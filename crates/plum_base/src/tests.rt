@@ -188,6 +188,35 @@ fn found_stations(rt: HostRuntime) -> Result<(), Fail> {
     Ok(())
 }
 
+/// Four targets in two areas, of which the first comes back.
+fn targets_of_two_areas(alloc: Global) -> Result<Vec<TargetSite>, Fail> {
+    let mut targets = Vec::new(alloc);
+    targets.push(target(b"t1", b"north").ok_or("a name")?)?;
+    targets.push(target(b"t2", b"south").ok_or("a name")?)?;
+    targets.push(target(b"t3", b"north").ok_or("a name")?)?;
+    targets.push(target(b"t4", b"south").ok_or("a name")?)?;
+    Ok(targets)
+}
+
+#[test]
+fn areas_of_targets(rt: HostRuntime) -> Result<(), Fail> {
+    let stations = [STATION].to_vec(rt.alloc())?;
+    let targets = targets_of_two_areas(rt.alloc())?;
+    assert!(rt; lawful(stations.as_slice(), targets.as_slice()));
+    let sites = Sites::new(rt.alloc(), stations, targets)?;
+    assert_eq!(rt; sites.areas(), 2);
+    assert_eq!(rt; sites.targets().len(), 4);
+    let names: [&[u8]; 2] = [b"north", b"south"];
+    for (i, name) in names.iter().enumerate() {
+        assert_eq!(rt; sites.area_name(AreaNo(i as u16)).as_slice(), *name);
+    }
+    let areas: [u16; 4] = [0, 1, 0, 1];
+    for (i, area) in areas.iter().enumerate() {
+        assert_eq!(rt; sites.area_of(TargetNo(i as u16)), AreaNo(*area), "of {i}");
+    }
+    Ok(())
+}
+
 #[test]
 fn waves(rt: HostRuntime) -> Result<(), Fail> {
     let mut wave = Wave::new(rt.alloc())?;
