@@ -4,3 +4,4 @@ pub mod Reaching
 pub mod Runs
 pub mod Values
 pub mod Packets
+pub mod Levels

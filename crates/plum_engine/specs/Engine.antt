@@ -9,7 +9,7 @@ use Rattle.plum_base.specs.declared.cascade.Rounding.TheVariants.{Floor}
 use Rattle.plum_base.specs.Levels.{Table}
 use Rattle.plum_engine.specs.Run.{samples_since_gap, run_of}
 use Rattle.plum_engine.specs.Signal.{amplitudes_of}
-use Rattle.plum_engine.specs.Level.{last_minute, IsValue}
+use Rattle.plum_engine.specs.Level.{last_minute, IsValue, value_of_run}
 
 -- one stage that gives floor (2 x / 2), and so its input
 abbrev pub pass_through : List Stage
@@ -31,3 +31,8 @@ pub record StandsFor (engine : Held) (gain : Gain) (table : Table) (given : List
 -- gap gives, whatever came before it.
 abbrev pub IsValueOf : Gain → Table → List (Key × List Sample) → Option Tenths → Type 0
 IsValueOf gain table packets value = IsValue table (amplitudes_of gain (run_of packets)) value
+
+-- The same as a function: the value that the run since the last gap has (JMA's 0.3 seconds, over the project's own
+-- window).
+unfoldable pub value_of : Gain → Table → List (Key × List Sample) → Option Tenths
+value_of gain table packets = value_of_run table (amplitudes_of gain (run_of packets))

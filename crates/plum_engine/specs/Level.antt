@@ -1,6 +1,7 @@
 -- The intensity of a run: the value that its amplitude reaches for 0.3 seconds in total (the JMA intensity), over the
 -- last minute (the project's own window). There are 100 samples in a second.
-use Rattle.std.specs.Prelude.{◌≡◌, ℕ, ◌-◌, ◌<◌, ◌≤◌, nat_le, pos, ◌+ℤ◌, List, length, drop, slice_index, count_by, Option, Some, None}
+use Rattle.std.specs.Prelude.{◌≡◌, ℕ, ◌+◌, ◌-◌, ◌<◌, ◌≤◌, nat_le, if◌then◌else◌, pos, ◌+ℤ◌, List, [], ◌∷◌, length, drop, slice_index, count_by, Option, Some, None}
+use Rattle.std.specs.Option.{option_map, option_or}
 use Rattle.plum_base.specs.declared.numbers.Tenths.{Tenths}
 use Rattle.plum_base.specs.Levels.{Table}
 
@@ -23,3 +24,19 @@ abbrev pub IsValue : Table → List ℕ → Option Tenths → Type 0
 IsValue table amplitudes None = length amplitudes < 30
 IsValue table amplitudes (Some value) =
     (30 ≤ length amplitudes) × (i : ℕ) × IsLevel table.thresholds amplitudes i × (value.0 ≡ table.base.0 +ℤ pos i)
+
+-- The level, as a function of thresholds and amplitudes (the 0.3 seconds are those of the JMA intensity, the last minute
+-- is the project's own): what the later thresholds give, one more; where they give none, 0 if at least 30 of the last
+-- minute reach the first threshold; else none.
+abbrev pub level_of : List ℕ → List ℕ → Option ℕ
+level_of [] amplitudes = None
+level_of (t ∷ ts) amplitudes =
+    option_or (option_map (λ i. i + 1) (level_of ts amplitudes)) (if nat_le 30 (reaching t amplitudes) then Some 0 else None)
+
+-- The value of a run, as a function of its amplitudes: none where they are fewer than 30 (JMA's 0.3 seconds), else the
+-- base and the level, in tenths.
+abbrev pub value_of_run : Table → List ℕ → Option Tenths
+value_of_run table amplitudes =
+    if nat_le 30 (length amplitudes)
+    then option_map (λ i. record { 0 = table.base.0 +ℤ pos i }) (level_of table.thresholds amplitudes)
+    else None

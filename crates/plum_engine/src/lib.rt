@@ -2,9 +2,11 @@
 #![tactic(auto)]
 
 mod engine;
+mod laws;
 mod signal;
 #[cfg(test)]
 mod tests;
 mod window;
 
 pub use engine::Engine;
+pub use laws::one_value;

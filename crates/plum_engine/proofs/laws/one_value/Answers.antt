@@ -1,0 +1,8 @@
+use Rattle.plum_engine.proofs.Levels.{value_of-only, value_of-is}
+use Rattle.plum_engine.proofs.laws.one_value.Goals as goal
+
+pub returns-clause-only : goal.returns-clause-only
+returns-clause-only c = value_of-only
+
+pub returns-clause-is : goal.returns-clause-is
+returns-clause-is c = value_of-is
