@@ -28,6 +28,17 @@ fn sites(rt: &impl Abort, alloc: Global) -> Result<Sites, Fail> {
     Ok(Sites::new(alloc, stations, targets)?)
 }
 
+/// Inspects and decodes a short body that is no packet.
+fn expect_fault(rt: &impl Abort, alloc: Global, sites: &Sites, bytes: &[u8], fault: PacketFault) {
+    assert!(rt; bytes.len() <= 100);
+    assert_eq!(rt; inspect(bytes, sites), Err(fault), "of {bytes:?}");
+    assert_eq!(rt;
+        decode(alloc, bytes, sites).err(),
+        Some(DecodeFault::Packet(fault)),
+        "of {bytes:?}"
+    );
+}
+
 /// A packet of station 1, boot 0, number 0 and the one sample (10, 0, 0).
 const PACKET: [u8; 26] = [
     0x50, 0x4c, 1, 0, 0, 1, 0, 0, 0, 0, 0, 0, 0, 1, 0, 0, 0, 10, 0, 0, 0, 0, 0, 0, 0, 0,
@@ -141,12 +152,7 @@ fn every_fault(rt: HostRuntime) -> Result<(), Fail> {
         ),
     ];
     for (bytes, fault) in rows.iter() {
-        assert_eq!(rt; inspect(*bytes, &sites), Err(*fault), "of {bytes:?}");
-        assert_eq!(rt;
-            decode(rt.alloc(), *bytes, &sites).err(),
-            Some(DecodeFault::Packet(*fault)),
-            "of {bytes:?}"
-        );
+        expect_fault(&rt, rt.alloc(), &sites, *bytes, *fault);
     }
     Ok(())
 }
