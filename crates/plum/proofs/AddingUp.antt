@@ -8,9 +8,9 @@ use Rattle.plum_base.specs.declared.packet.Packet.{Packet}
 use Rattle.plum_base.specs.declared.packet.PacketFault.{PacketFault}
 use Rattle.plum_seq.specs.Keys.{is_kept}
 use Rattle.plum_packet.specs.Segments.{packets_in, refused_in}
-use Rattle.plum.specs.History.{of_station, kept_packets_after}
+use Rattle.plum_core.specs.History.{of_station, kept_packets_after}
 use Rattle.plum.specs.Texts.{counts_of, Section, section_of, sections_from, totals_of, AddUp}
-use Rattle.plum.specs.Transcript.{kept_in_segments_after}
+use Rattle.plum_core.specs.Transcript.{kept_in_segments_after}
 
 -- no more packets are kept than there are
 few_kept : (earlier packets : List Packet) → length (kept_packets_after earlier packets) ≤ length packets

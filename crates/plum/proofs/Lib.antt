@@ -1,12 +1,5 @@
 pub mod Words
-pub mod Shown
 pub mod Reading
-pub mod Pushes
-pub mod KeyLaws
-pub mod Stations
-pub mod Histories
-pub mod Predictions
-pub mod Showing
 pub mod AnswerLines
 pub mod Stops
 pub mod OneSegment

@@ -16,9 +16,9 @@ use Rattle.plum_packet.specs.Capture.{mark_body}
 use Rattle.plum_packet.specs.Segments.{segment_bodies, segments_of, HasNoMark, IsReadSegment, packets_in, refused_in}
 use Rattle.plum.specs.declared.text.lines.Counts.{Counts}
 use Rattle.plum.specs.Bodies.{ArePackets}
-use Rattle.plum.specs.History.{packet_of, IsValidHistory, HoldsKept, kept_packets}
+use Rattle.plum_core.specs.History.{packet_of, IsValidHistory, HoldsKept, kept_packets}
 use Rattle.plum.specs.Texts.{entry_lines, journal_text, one_area, sections_of}
-use Rattle.plum.specs.Transcript.{Transcript, journal_of, IsReadingAt, of_lane, targets_of, ArePredictions, IsLegal}
+use Rattle.plum_core.specs.Transcript.{Transcript, journal_of, IsReadingAt, of_lane, targets_of, ArePredictions, IsLegal}
 
 -- a capture without a mark and with fewer bodies than fill a segment is one, as the law of segments says
 abbrev pub IsOne : Type 0

@@ -11,11 +11,11 @@ use Rattle.plum_host.specs.declared.host.To.TheVariants.{Out, Journal}
 use Rattle.plum_host.specs.Told.{Appends}
 use Rattle.plum_seq.specs.Keys.{is_kept}
 use Rattle.plum.specs.declared.text.lines.Counts.{Counts}
-use Rattle.plum.specs.History.{packet_of, of_station, kept_packets_after, HoldsKept, IsValidHistory}
+use Rattle.plum_core.specs.History.{packet_of, of_station, kept_packets_after, HoldsKept, IsValidHistory}
 use Rattle.plum.specs.Replayed.{IsOneSegment, IsReplay}
 use Rattle.plum.specs.BuiltIn.{IsBuiltInSetup, built_in_stations, built_in_targets, built_in_sites}
 use Rattle.plum.specs.Texts.{entry_lines, one_area, sections_of, output_text}
-use Rattle.plum.specs.Transcript.{targets_of, ArePredictions, IsLegal}
+use Rattle.plum_core.specs.Transcript.{targets_of, ArePredictions, IsLegal}
 use Rattle.plum.proofs.OneSegment.{IsOne, all_lawful, packets_in-all_lawful, read_one, one_reading, legal_one, journal_one, section_one}
 
 no_more : (b : Bool) (p : Packet) (ps kept : List Packet) → length kept ≤ length ps → length (cond b (p ∷ kept) kept) ≤ length (p ∷ ps)

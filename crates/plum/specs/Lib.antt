@@ -1,11 +1,8 @@
 pub mod Job
 pub mod Bodies
-pub mod History
-pub mod Station
 pub mod Classes
 pub mod Lines
 pub mod Fields
-pub mod Transcript
 pub mod Texts
 pub mod BuiltIn
 pub mod Replayed

@@ -10,7 +10,7 @@ use Rattle.plum_host.specs.Told.{Appends}
 use Rattle.plum_packet.specs.Capture.{IsCapture}
 use Rattle.plum_packet.specs.Segments.{segment_bodies, segments_of, IsReadSegment, packets_in}
 use Rattle.plum.specs.Bodies.{ArePackets}
-use Rattle.plum.specs.Transcript.{Transcript, IsLegal}
+use Rattle.plum_core.specs.Transcript.{Transcript, IsLegal}
 use Rattle.plum.specs.Texts.{journal_text, output_text, sections_of}
 use Rattle.plum.specs.BuiltIn.{IsBuiltInSetup, built_in_sites}
 

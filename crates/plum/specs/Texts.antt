@@ -12,7 +12,7 @@ use Rattle.plum_base.specs.Sites.{areas_of}
 use Rattle.plum_packet.specs.Segments.{packets_in, refused_in}
 use Rattle.plum.specs.declared.text.lines.Counts.{Counts}
 use Rattle.plum.specs.Lines.{entry_line, mark_line, refused_line, reading_line, answer_line, tail_line, totals_line}
-use Rattle.plum.specs.Transcript.{Transcript, kept_in_segments, targets_of}
+use Rattle.plum_core.specs.Transcript.{Transcript, kept_in_segments, targets_of}
 
 -- the code of the n-th station, from 0
 abbrev pub code_in : Option StationSite → ℕ

@@ -1,12 +1,9 @@
 //! plum: an earthquake early warning centre that replays captures.
 #![tactic(auto)]
 
-mod area;
 mod built_in;
-mod history;
 mod job;
 mod packets;
-mod predict;
 mod replay;
 mod run;
 mod status;
@@ -15,7 +12,6 @@ mod text;
 pub use job::paths_of;
 use plum_base::NoMemory;
 use plum_host::StdHost;
-pub use predict::station_shows_its_value;
 pub use run::run;
 pub use status::{Status, status_number, status_text};
 use std::env;

@@ -14,14 +14,13 @@ ghost use Rattle.plum.specs.BuiltIn.{built_in_stations};
 ghost use Rattle.plum.specs.Replayed.{AppendsReplay, AppendsNothing, IsOneSegment};
 ghost use Rattle.plum.specs.Stops.{stop_of_read, stop_of_put};
 
-use crate::area::read_area;
 use crate::built_in::{built_in_setup, built_in_sites};
-use crate::history::history_of;
 use crate::packets::{ReadStop, read_packets};
 use crate::text::journal::journal_text;
 use crate::text::lines::Counts;
 use crate::text::output::output_text;
 use plum_base::{Bytes, NoMemory};
+use plum_core::{history_of, read_area};
 use plum_host::{Host, PutFault, To, WriteRefusal, put_all};
 use plum_packet::segments_hold_each_body;
 use std::alloc::Global;
@@ -137,7 +136,7 @@ pub fn replay<H: Host>(alloc: Global, host: &mut H) -> Result<(), Stop>
     // For the contract: without a mark, fewer bodies than fill a segment are one segment.
     segments_hold_each_body();
     let bodies = segment.packets.len() as u32;
-    let history = history_of(alloc, &setup, segment.packets)?;
+    let history = history_of(alloc, &sites, &setup, segment.packets)?;
     let kept = history.len() as u32;
     let counts = Counts {
         bodies,
@@ -145,7 +144,7 @@ pub fn replay<H: Host>(alloc: Global, host: &mut H) -> Result<(), Stop>
         repeats: bodies - kept,
         refused: 0,
     };
-    let reading = read_area(alloc, stations, targets, &history)?;
+    let reading = read_area(alloc, stations, targets, &first.area, &history)?;
     let journal = journal_text(alloc, stations, &history)?;
     let output = output_text(alloc, &first.area, targets, &counts, &reading, segment.tail)?;
     put(host, To::Journal, &journal)?;

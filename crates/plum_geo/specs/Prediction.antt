@@ -1,7 +1,7 @@
 -- Predictions by PLUM (Kodera and others 2018): no source is estimated. The prediction at a target is the greatest
 -- intensity less site factor that a reporting station within 30 km shows, plus the target's factor.
-use Rattle.std.specs.Prelude.{◌≡◌, ℕ, Bool, true, ◌&&◌, ◌==◌, int_le, ℤ, pos, nat_abs, neg_ℤ, ◌+ℤ◌, ◌-ℤ◌, ◌≤ℤ◌, ◌+◌, ◌*◌, ◌≤◌, List, filter, Option, Some, None, slice_get}
-use Rattle.std.specs.List.{last_or}
+use Rattle.std.specs.Prelude.{◌≡◌, ℕ, Bool, true, ◌&&◌, ◌==◌, nat_le, int_le, ℤ, pos, nat_abs, neg_ℤ, ◌+ℤ◌, ◌-ℤ◌, ◌≤ℤ◌, ◌+◌, ◌*◌, ◌≤◌, List, filter, Option, Some, None}
+use Rattle.std.specs.List.{last_or, enumerate_from, Contains}
 use Rattle.std.specs.Option.{option_and_then}
 use Rattle.plum_base.specs.declared.entry.Entry.{Entry}
 use Rattle.plum_base.specs.declared.numbers.Point.{Point}
@@ -35,11 +35,18 @@ distance_squared a b = nat_abs (a.x -ℤ b.x) * nat_abs (a.x -ℤ b.x) + nat_abs
 abbrev pub IsNear : Point → Point → Type 0
 IsNear a b = distance_squared a b ≤ 30000 * 30000
 
+-- the same as a test
+abbrev pub is_near : Point → Point → Bool
+is_near a b = nat_le (distance_squared a b) (30000 * 30000)
+
+-- The stations within 30 km of a place, each with its position in the list, from 0: a scan of the whole list.
+unfoldable pub near_stations : List StationSite → Point → List (ℕ × StationSite)
+near_stations stations place = filter (λ p. is_near p.1.at place) (enumerate_from 0 stations)
+
 -- Station n is near the target and shows this value in the history.
 pub record Reports (stations : List StationSite) (history : List Entry) (target : TargetSite) (n : ℕ) (value : Tenths) : Type 0 where
   pub site : StationSite
-  pub listed : slice_get stations n ≡ Some site
-  pub near : IsNear site.at target.at
+  pub near : Contains (near_stations stations target.at) (n, site)
   pub shows : shown history n ≡ Some value
 
 -- what a station's value says at the target: less the station's factor, plus the target's

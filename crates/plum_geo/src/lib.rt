@@ -2,7 +2,9 @@
 #![tactic(auto)]
 
 mod distance;
+mod laws;
 #[cfg(test)]
 mod tests;
 
 pub use distance::near;
+pub use laws::near_stations_are_those_near;

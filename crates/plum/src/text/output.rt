@@ -3,7 +3,7 @@
 ghost use Rattle.std.specs.Prelude.{◌≡◌, ◌∷◌, [], ◌++◌, OnOk, IfOk};
 ghost use Rattle.plum_base.specs.Sites.{areas_of};
 ghost use Rattle.plum.specs.Texts.{answer_lines, reading_lines, output_text, one_area};
-ghost use Rattle.plum.specs.Transcript.{targets_of};
+ghost use Rattle.plum_core.specs.Transcript.{targets_of};
 
 use crate::text::lines::{Counts, put_answer, put_mark, put_reading, put_tail, put_totals};
 use plum_base::{Bytes, Name, NoMemory, Reading, TargetSite, Tenths};

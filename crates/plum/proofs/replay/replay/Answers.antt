@@ -1,11 +1,14 @@
-use Rattle.std.proofs.Common.{◌≡◌, inr, length, sym, ap, subst, ◌∙◌, arith}
+use Rattle.std.proofs.Common.{◌≡◌, [], ◌∷◌, inr, length, sym, ap, subst, ◌∙◌, arith}
+use Rattle.std.proofs.lemmas.Option.{same_Some}
 use Rattle.std.proofs.lemmas.Result.{on_ok_weaker}
+use Rattle.std.specs.Prelude.{slice_get}
 use Rattle.plum_host.specs.declared.host.In.TheVariants.{Capture}
 use Rattle.plum_host.specs.declared.host.To.TheVariants.{Out, Journal}
 use Rattle.plum_host.specs.Told.{Appends}
 use Rattle.plum.specs.Replayed.{IsOneSegment}
 use Rattle.plum.specs.BuiltIn.{built_in_stations, built_in_targets}
-use Rattle.plum.specs.Transcript.{ArePredictions}
+use Rattle.plum_core.specs.History.{IsValidHistory}
+use Rattle.plum_core.specs.Transcript.{targets_of, ArePredictions}
 use Rattle.plum.proofs.Replaying.{length-HoldsKept, appends_text, outputs_differ, replay_of}
 use Rattle.plum.proofs.replay.replay.Goals as goal
 
@@ -40,6 +43,7 @@ returns-clause-texts g c =
     let read = c.in_ok-segment.ensures.segment capture (c.open_journal.ensures.inputs Capture ∙ told) in
     let stations : c.stations-stations.result.now ≡ built_in_stations = c.stations-stations.ensures.value ∙ sites.0 in
     let targets : c.targets-targets.result.now ≡ built_in_targets = c.targets-targets.ensures.value ∙ sites.1 in
+    let area : c.in-Some.first.now.area ≡ 97 ∷ [] = ap (λ t. t.area) (same_Some c.in-Some.first.now _ (c.in-Some.ensures.value ∙ ap (λ ts. slice_get ts 0) targets)) in
     let opened = g.H.Host.held c.open_journal.new.host in
     let journal = c.in_ok-journal.journal in
     let output = c.in_ok-output.output in
@@ -52,10 +56,12 @@ returns-clause-texts g c =
       replay = replay_of c.built_in_setup-setup.result c.built_in_setup-setup.ensures capture segment.packets.items segment.tail
           (subst (λ stations. IsOneSegment stations capture segment.packets.items segment.tail) sites.0 read.0)
           c.segments_hold_each_body.ensures.one c.in_ok-history.history.items c.in_ok-reading.reading _ journal output
-          c.in_ok-history.ensures.valid c.in_ok-history.ensures.complete
+          (subst (λ stations. IsValidHistory c.built_in_setup-setup.result (length stations) c.in_ok-history.history.items) sites.0 c.in_ok-history.ensures.valid)
+          c.in_ok-history.ensures.complete
           (c.in_ok-reading.ensures.front ∙ ap length c.deref.ensures.value)
           (subst (λ history. ArePredictions built_in_stations history built_in_targets c.in_ok-reading.reading.answers) c.deref.ensures.value
-          (rw (stations, targets) at c.in_ok-reading.ensures.answers))
+          (subst (λ name. ArePredictions built_in_stations c.deref.result.now (targets_of name built_in_targets) c.in_ok-reading.reading.answers) area
+          (rw (stations, targets) at c.in_ok-reading.ensures.answers)))
           (cc (c.len-bodies.ensures, c.len-kept.ensures))
           (rw (stations, c.deref-2.ensures.value) at c.in_ok-journal.ensures)
           (rw targets at c.in_ok-output.ensures);

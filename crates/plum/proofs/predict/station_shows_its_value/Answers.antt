@@ -1,5 +1,0 @@
-use Rattle.plum.proofs.Showing.{Shows-valid}
-use Rattle.plum.proofs.predict.station_shows_its_value.Goals as goal
-
-pub returns : goal.returns
-returns c = λ setup stations s history table valid. Shows-valid setup stations s table history valid

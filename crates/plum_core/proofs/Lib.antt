@@ -1,0 +1,16 @@
+pub mod Pushes
+pub mod KeyLaws
+pub mod Stations
+pub mod Histories
+pub mod Shown
+pub mod Showing
+pub mod Predictions
+pub mod Lanes
+pub mod Backlogs
+pub mod Keeping
+pub mod Networks
+pub mod Followings
+pub mod Runs
+pub mod OneReply
+pub mod Existing
+pub mod Playing

@@ -1,0 +1,80 @@
+-- Transcripts: what a run said, and when that is right. The headline stands here.
+use Rattle.std.specs.Prelude.{◌≡◌, ℕ, ◌+◌, ◌-◌, ◌%◌, ◌≤◌, ◌==◌, List, [], ◌∷◌, ◌++◌, length, map, filter, take, slice_get, All, Option, Some}
+use Rattle.std.specs.List.{flat_map, AllZip}
+use Rattle.std.specs.Str.{bytes_eq}
+use Rattle.plum_base.specs.declared.answers.Reading.{Reading}
+use Rattle.plum_base.specs.declared.entry.Entry.{Entry}
+use Rattle.plum_base.specs.declared.numbers.Tenths.{Tenths}
+use Rattle.plum_base.specs.declared.packet.Packet.{Packet}
+use Rattle.plum_base.specs.declared.setup.Setup.{Setup}
+use Rattle.plum_base.specs.declared.sites.StationSite.{StationSite}
+use Rattle.plum_base.specs.declared.sites.TargetSite.{TargetSite}
+use Rattle.plum_base.specs.Sites.{Lists, areas_of}
+use Rattle.plum_core.specs.History.{packet_of, IsValidHistory, kept_packets_after}
+use Rattle.plum_geo.specs.Prediction.{IsPrediction}
+
+-- the journal, cut into the parts of the segments, and for each mark a reading for each area
+pub record Transcript : Type 0 where
+  pub parts : List (List Entry)
+  pub readings : List (List Reading)
+
+-- the entries of the first m segments
+abbrev pub entries_up_to : ℕ → Transcript → List Entry
+entries_up_to m t = flat_map (λ part. part) (take m t.parts)
+
+-- the journal
+abbrev pub journal_of : Transcript → List Entry
+journal_of t = flat_map (λ part. part) t.parts
+
+-- The reading for the a-th area, from 0, at mark m, from 1: the end of segment m.
+pub record IsReadingAt (t : Transcript) (m a : ℕ) (reading : Reading) : Type 0 where
+  pub from_one : 1 ≤ m
+  pub of_mark : List Reading
+  pub mark : slice_get t.readings (m - 1) ≡ Some of_mark
+  pub area : slice_get of_mark a ≡ Some reading
+
+-- the kept packets of each of these segments, which come after earlier packets
+abbrev pub kept_in_segments_after : List Packet → List (List Packet) → List (List Packet)
+kept_in_segments_after earlier [] = []
+kept_in_segments_after earlier (segment ∷ segments) =
+    kept_packets_after earlier segment ∷ kept_in_segments_after (earlier ++ segment) segments
+
+-- the kept packets of each segment; each packet is compared with all earlier ones of its station, in whatever segment
+abbrev pub kept_in_segments : List (List Packet) → List (List Packet)
+kept_in_segments segments = kept_in_segments_after [] segments
+
+-- the packets of a lane; a station's lane is its position in the list of stations modulo the number of lanes
+abbrev pub of_lane : ℕ → ℕ → List Packet → List Packet
+of_lane lanes lane packets = filter (λ p. p.station.0 % lanes == lane) packets
+
+-- The part holds exactly these packets, each once: those of each lane, in file order.
+abbrev pub HoldsByLane : ℕ → List Entry → List Packet → Type 0
+HoldsByLane lanes part packets = (lane : ℕ) → of_lane lanes lane (map packet_of part) ≡ of_lane lanes lane packets
+
+-- the targets of an area, in file order
+abbrev pub targets_of : List ℕ → List TargetSite → List TargetSite
+targets_of area targets = filter (λ t. bytes_eq t.area area) targets
+
+-- The answers are the predictions at these targets, one for one.
+abbrev pub ArePredictions : List StationSite → List Entry → List TargetSite → List (Option Tenths) → Type 0
+ArePredictions stations history targets answers = AllZip (IsPrediction stations history) targets answers
+
+-- The transcript is right for the segments of a capture, given as packets.
+pub record IsLegal (setup : Setup) (sites : Lists) (segments : List (List Packet)) (t : Transcript) : Type 0 where
+  -- Each station's value is the plain function of its packets since its last gap.
+  pub valid : IsValidHistory setup (length sites.stations) (journal_of t)
+  -- Each part holds exactly the kept packets of its segment.
+  pub complete : AllZip (HoldsByLane setup.lanes) t.parts (kept_in_segments segments)
+  -- Each mark has a reading for each area.
+  pub marks : length t.readings ≡ length t.parts
+  pub areas : All (λ readings. length readings ≡ length (areas_of sites.targets)) t.readings
+  -- The front of a reading holds every packet kept before its mark, and none that is kept after the next mark.
+  pub bounds : (m a : ℕ) (reading : Reading) → IsReadingAt t m a reading
+      → (length (entries_up_to m t) ≤ reading.front) × (reading.front ≤ length (entries_up_to (m + 1) t))
+  -- An area's fronts never fall.
+  pub rising : (m a : ℕ) (earlier later : Reading) → IsReadingAt t m a earlier → IsReadingAt t (m + 1) a later
+      → earlier.front ≤ later.front
+  -- Its answers are the predictions over that front of the journal, for the targets of its area.
+  pub answers : (m a : ℕ) (reading : Reading) (area : List ℕ) → IsReadingAt t m a reading
+      → slice_get (areas_of sites.targets) a ≡ Some area
+      → ArePredictions sites.stations (take reading.front (journal_of t)) (targets_of area sites.targets) reading.answers
