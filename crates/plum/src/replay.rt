@@ -144,7 +144,7 @@ pub fn replay<H: Host>(alloc: Global, host: &mut H) -> Result<(), Stop>
         repeats: bodies - kept,
         refused: 0,
     };
-    let reading = read_area(alloc, stations, targets, &first.area, &history)?;
+    let reading = read_area(alloc, &sites, &first.area, &history)?;
     let journal = journal_text(alloc, stations, &history)?;
     let output = output_text(alloc, &first.area, targets, &counts, &reading, segment.tail)?;
     put(host, To::Journal, &journal)?;

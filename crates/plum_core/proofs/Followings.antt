@@ -87,7 +87,7 @@ waits-changed xs lanes n new lane listed is waits l below =
     ]
 
 -- nothing waits at a place
-pub nothing_waits : (xs : List (Option Entry)) (n : ℕ) (found : Option Entry) → found ≡ get_or xs n found → is_some found ≡ false → get_or xs n None ≡ None
+nothing_waits : (xs : List (Option Entry)) (n : ℕ) (found : Option Entry) → found ≡ get_or xs n found → is_some found ≡ false → get_or xs n None ≡ None
 nothing_waits xs n None is none = sym is
 nothing_waits xs n (Some e) is none = absurd (false≢true (sym none))
 
@@ -99,11 +99,27 @@ pub record TakingLeaves (m after : Machine) : Type 0 where
   pub published : after.published ≡ m.published
   pub seen : after.seen.items ≡ m.seen.items
 
-module _ (setup : Setup) (state : State) (p : Packet) (m after : Machine) (place : ℕ) (follows : Follows setup m state)
-    (place_is : place ≡ lane_of setup p.station.0) (listed : place < length m.waiting.items) (none : get_or m.waiting.items place None ≡ None) where
+-- The machine is in this state, and nothing waits at the place of the packet's lane.
+pub record IsFree (setup : Setup) (state : State) (p : Packet) (m : Machine) (place : ℕ) : Type 0 where
+  pub follows : Follows setup m state
+  pub of_lane : place ≡ lane_of setup p.station.0
+  pub listed : place < length m.waiting.items
+  pub none : get_or m.waiting.items place None ≡ None
+
+pub IsFree-found : (setup : Setup) (state : State) (p : Packet) (m : Machine) (place : ℕ) (found : Option Entry) → Follows setup m state
+    → place ≡ p.station.0 % m.network.lanes → place < m.network.lanes → found ≡ get_or m.waiting.items place found → is_some found ≡ false
+    → IsFree setup state p m place
+IsFree-found setup state p m place found follows value bound is none = record {
+  follows = follows;
+  of_lane = value ∙ ap (λ lanes. p.station.0 % lanes) follows.network.lanes;
+  listed = omega (arith, bound, m.lanes, m.waiting.ok.0);
+  none = nothing_waits m.waiting.items place found is none;
+}
+
+module _ (setup : Setup) (state : State) (p : Packet) (m after : Machine) (place : ℕ) (free : IsFree setup state p m place) where
   -- nothing waits in the packet's lane
   pub lane_is_free : (state.lanes (lane_of setup p.station.0)).waiting ≡ None
-  lane_is_free = subst (λ n. (state.lanes n).waiting ≡ None) place_is (sym (follows.waiting place listed) ∙ none)
+  lane_is_free = subst (λ n. (state.lanes n).waiting ≡ None) free.of_lane (sym (free.follows.waiting place free.listed) ∙ free.none)
 
   -- the packet is taken
   pub Follows-taken : (waiting : Option Entry) → waiting_after setup (state.lanes (lane_of setup p.station.0)).taken p ≡ waiting
@@ -113,23 +129,23 @@ module _ (setup : Setup) (state : State) (p : Packet) (m after : Machine) (place
       let n = lane_of setup p.station.0 in
       let lane : Option Entry → Lane = λ w. record { taken = (state.lanes n).taken ++ p ∷ []; waiting = w; sent = (state.lanes n).sent } in
       let with_lane : Option Entry → State = λ w. record state { lanes = changed n (lane w) state.lanes } in
-      let listed_n : n < length m.waiting.items = subst (λ k. k < length m.waiting.items) place_is listed in
-      let set_n : after.waiting.items ≡ set m.waiting.items n waiting = waiting_is ∙ ap (λ k. set m.waiting.items k waiting) place_is in
+      let listed_n : n < length m.waiting.items = subst (λ k. k < length m.waiting.items) free.of_lane free.listed in
+      let set_n : after.waiting.items ≡ set m.waiting.items n waiting = waiting_is ∙ ap (λ k. set m.waiting.items k waiting) free.of_lane in
       let at_n : (l : ℕ) → l < length after.waiting.items → get_or after.waiting.items l None ≡ (changed n (lane waiting) state.lanes l).waiting =
       subst (λ xs. (l : ℕ) → l < length xs → get_or xs l None ≡ (changed n (lane waiting) state.lanes l).waiting) (sym set_n)
-      (waits-changed m.waiting.items state.lanes n waiting (lane waiting) listed_n refl follows.waiting) in
+      (waits-changed m.waiting.items state.lanes n waiting (lane waiting) listed_n refl free.follows.waiting) in
       let taken : Follows setup after (with_lane waiting) = record {
         network = StandFor-same after.network setup _ _ (taken_more setup state p waiting) stand;
         waiting = at_n;
-        queue = leaves.queue ∙ follows.queue;
-        gathered = leaves.gathered ∙ follows.gathered;
-        appended = leaves.appended ∙ follows.appended;
-        published = leaves.published ∙ follows.published;
-        seen = subst (λ xs. (area : ℕ) → area < length xs → get_or xs area 0 ≡ state.seen area) (sym leaves.seen) follows.seen;
+        queue = leaves.queue ∙ free.follows.queue;
+        gathered = leaves.gathered ∙ free.follows.gathered;
+        appended = leaves.appended ∙ free.follows.appended;
+        published = leaves.published ∙ free.follows.published;
+        seen = subst (λ xs. (area : ℕ) → area < length xs → get_or xs area 0 ≡ state.seen area) (sym leaves.seen) free.follows.seen;
       } in
       subst (λ w. Follows setup after (record state { lanes = changed n (lane_takes setup p (state.lanes n) w) state.lanes })) (sym lane_is_free)
       (subst (λ w. Follows setup after (with_lane w)) (sym waits) taken)
 
   -- a place in which nothing waits stays so
   pub waiting_stays : m.waiting.items ≡ set m.waiting.items place None
-  waiting_stays = sym (ap (set m.waiting.items place) (sym none) ∙ set-get_or m.waiting.items place None)
+  waiting_stays = sym (ap (set m.waiting.items place) (sym free.none) ∙ set-get_or m.waiting.items place None)

@@ -33,7 +33,7 @@ KeepsFacts-start setup stations = record {
   lanes_in_order = λ lane below. refl;
   history_valid = IsValidHistory-nil setup stations;
   queue_bounded = omega arith;
-  backlog = λ lane below. record { kept = λ station in_lane. refl; next = tt };
+  backlog = λ lane below. record { kept = refl; next = tt };
   published_gathered = (omega arith, omega arith);
   seen_published = λ area. omega arith;
 }

@@ -1,5 +1,5 @@
--- Transcripts: what a run said, and when that is right. The headline stands here.
-use Rattle.std.specs.Prelude.{◌≡◌, ℕ, ◌+◌, ◌-◌, ◌%◌, ◌≤◌, ◌==◌, List, [], ◌∷◌, ◌++◌, length, map, filter, take, slice_get, All, Option, Some}
+-- Transcripts: what a run said, and when that is right.
+use Rattle.std.specs.Prelude.{◌≡◌, ℕ, ◌+◌, ◌-◌, ◌%◌, ◌≤◌, ◌==◌, if◌then◌else◌, List, [], ◌∷◌, ◌++◌, length, map, filter, take, slice_get, All, Option, Some}
 use Rattle.std.specs.List.{flat_map, AllZip}
 use Rattle.std.specs.Str.{bytes_eq}
 use Rattle.plum_base.specs.declared.answers.Reading.{Reading}
@@ -59,14 +59,14 @@ targets_of area targets = filter (λ t. bytes_eq t.area area) targets
 abbrev pub ArePredictions : List StationSite → List Entry → List TargetSite → List (Option Tenths) → Type 0
 ArePredictions stations history targets answers = AllZip (IsPrediction stations history) targets answers
 
--- The transcript is right for the segments of a capture, given as packets.
-pub record IsLegal (setup : Setup) (sites : Lists) (segments : List (List Packet)) (t : Transcript) : Type 0 where
+-- The transcript is right for these segments, given as packets, where so many marks have readings.
+pub record IsLegalOver (setup : Setup) (sites : Lists) (segments : List (List Packet)) (read : ℕ) (t : Transcript) : Type 0 where
   -- Each station's value is the plain function of its packets since its last gap.
   pub valid : IsValidHistory setup (length sites.stations) (journal_of t)
   -- Each part holds exactly the kept packets of its segment.
   pub complete : AllZip (HoldsByLane setup.lanes) t.parts (kept_in_segments segments)
-  -- Each mark has a reading for each area.
-  pub marks : length t.readings ≡ length t.parts
+  -- Each of these marks has a reading for each area.
+  pub marks : length t.readings ≡ read
   pub areas : All (λ readings. length readings ≡ length (areas_of sites.targets)) t.readings
   -- The front of a reading holds every packet kept before its mark, and none that is kept after the next mark.
   pub bounds : (m a : ℕ) (reading : Reading) → IsReadingAt t m a reading
@@ -78,3 +78,14 @@ pub record IsLegal (setup : Setup) (sites : Lists) (segments : List (List Packet
   pub answers : (m a : ℕ) (reading : Reading) (area : List ℕ) → IsReadingAt t m a reading
       → slice_get (areas_of sites.targets) a ≡ Some area
       → ArePredictions sites.stations (take reading.front (journal_of t)) (targets_of area sites.targets) reading.answers
+
+-- The transcript is right for the segments of a capture: it has readings at each mark.
+abbrev pub IsLegal : Setup → Lists → List (List Packet) → Transcript → Type 0
+IsLegal setup sites segments t = IsLegalOver setup sites segments (length segments) t
+
+-- The transcript is right as far as the k-th segment. A mark has readings once the segment after it has its part, and the
+-- last one with its own.
+abbrev pub IsLegalUpTo : ℕ → Setup → Lists → List (List Packet) → Transcript → Type 0
+IsLegalUpTo k setup sites segments t =
+    (k ≤ length segments)
+    × IsLegalOver setup sites (take k segments) (if k == length segments then k else k - 1) t

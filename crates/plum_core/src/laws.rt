@@ -1,6 +1,6 @@
 //! Laws of histories and of the machine, each for whoever calls it.
 
-ghost use Rattle.std.specs.Prelude.{◌≡◌, ◌≢◌, ℕ, ◌%◌, ◌<◌, ◌≤◌, List, [], ◌∷◌, ◌++◌, length, take, slice_get, All, Some, None, IsSomeAnd};
+ghost use Rattle.std.specs.Prelude.{◌≡◌, ◌≢◌, ◌↔◌, ℕ, ◌%◌, ◌<◌, ◌≤◌, List, [], ◌∷◌, ◌++◌, length, take, slice_get, All, Some, None, IsSomeAnd};
 ghost use Rattle.plum_base.specs.declared.answers.Reading.{Reading};
 ghost use Rattle.plum_base.specs.declared.entry.Entry.{Entry};
 ghost use Rattle.plum_base.specs.declared.numbers.AreaNo.{AreaNo};
@@ -10,12 +10,13 @@ ghost use Rattle.plum_base.specs.Levels.{IsLevelTable};
 ghost use Rattle.plum_base.specs.Sites.{Lists, areas_of};
 ghost use Rattle.plum_engine.specs.Engine.{IsValueOf};
 ghost use Rattle.plum_geo.specs.Prediction.{shown};
+ghost use Rattle.plum_seq.specs.Keys.{kept};
 ghost use Rattle.plum_core.specs.declared.event.Event.{Event};
 ghost use Rattle.plum_core.specs.declared.event.Reply.{Reply};
-ghost use Rattle.plum_core.specs.History.{packets_of, entries_of_lane, IsValidHistory};
+ghost use Rattle.plum_core.specs.History.{of_station, packets_of, entries_of_lane, IsEntryAfter, IsValidHistory, kept_packets, HoldsKept};
 ghost use Rattle.plum_core.specs.Kept.{IsInLaneOrder, IsBacklog, KeepsFacts};
 ghost use Rattle.plum_core.specs.Machine.{State, start, step, run, lane_of, waiting_after, AreReplies, IsReadAt, NamesExist};
-ghost use Rattle.plum_core.specs.Transcript.{targets_of, ArePredictions};
+ghost use Rattle.plum_core.specs.Transcript.{Transcript, targets_of, ArePredictions, IsLegal, IsLegalUpTo};
 
 use plum_engine::one_value;
 use plum_geo::near_stations_are_those_near;
@@ -37,6 +38,23 @@ pub fn fronts_of_histories()
         → entries_of_lane lane (front ++ rest) ≡ entries_of_lane lane front ++ entries_of_lane lane rest }
 {}
 
+/// The kept packets of many stations are, station by station, the kept ones of each.
+pub fn kept_packets_by_station()
+    ensures packets { (station : ℕ) (packets : List Packet)
+        → of_station station (kept_packets packets) ≡ kept (of_station station packets) }
+    ensures history { (station : ℕ) (history : List Entry) (packets : List Packet) → HoldsKept history packets
+        → packets_of station history ≡ kept (of_station station packets) }
+{
+    // For the contract: what is known of keys.
+    kept_keys();
+}
+
+/// A transcript that is legal up to the last segment is legal.
+pub fn legal_up_to_the_end()
+    ensures { (setup : Setup) (sites : Lists) (segments : List (List Packet)) (t : Transcript)
+        → IsLegalUpTo (length segments) setup sites segments t ↔ IsLegal setup sites segments t }
+{}
+
 /// What taking a packet does to a lane in which nothing waits.
 pub fn taking_keeps_backlog()
     ensures { (setup : Setup) (stations : ℕ) (taken : List Packet) (p : Packet) (sent : List Entry) → IsLevelTable setup.levels
@@ -53,6 +71,10 @@ pub fn taking_keeps_backlog()
 pub fn sending_keeps_validity()
     ensures valid { (setup : Setup) (stations lane : ℕ) (taken : List Packet) (e : Entry) (sent all : List Entry)
         → IsValidHistory setup stations all → IsInLaneOrder lane sent all → IsBacklog setup stations lane taken (Some e) sent
+        → IsValidHistory setup stations (all ++ e ∷ []) }
+    // A valid history stays valid when a lane's next entry joins its end: one that is correct after what the lane sent.
+    ensures joins { (setup : Setup) (stations lane : ℕ) (e : Entry) (sent all : List Entry) → IsValidHistory setup stations all
+        → IsInLaneOrder lane sent all → e.lane.0 ≡ lane → IsEntryAfter setup stations sent e
         → IsValidHistory setup stations (all ++ e ∷ []) }
     ensures order { (lane : ℕ) (e : Entry) (sent all : List Entry) → e.lane.0 ≡ lane → IsInLaneOrder lane sent all
         → IsInLaneOrder lane (sent ++ e ∷ []) (all ++ e ∷ []) }

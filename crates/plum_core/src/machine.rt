@@ -161,7 +161,7 @@ impl Machine {
     {
         let name = sites.area_name(area);
         let front = &self.gathered[..self.published];
-        let reading = read_area(alloc, sites.stations(), sites.targets(), &name, front)?;
+        let reading = read_area(alloc, sites, &name, front)?;
         self.seen[area.0 as usize] = self.published as u64;
         Ok(Reply::Read(reading))
     }

@@ -13,7 +13,8 @@ use std::alloc::Global;
 use std::process::Abort;
 use std::test::Fail;
 
-/// A setup whose cascade passes its input through: 2.0 from the amplitude 0 on, 2.1 from 10 and 2.2 from 20.
+/// A setup whose cascade passes its input through: 2.0 from the amplitude 0 on, 2.1 from 10, 2.2 from 20
+/// and 2.3 from 30.
 fn setup_of(lanes: u16, queue: u32) -> Result<Setup, Fail>
     requires lanes { (1 ≤ lanes) × (lanes ≤ 16) }
     requires queue { (1 ≤ queue) × (queue ≤ 65536) }
@@ -30,7 +31,7 @@ fn setup_of(lanes: u16, queue: u32) -> Result<Setup, Fail>
         round: Rounding::Floor,
     });
     let mut table = ArrayVec::new();
-    table.try_extend_from_slice(&[0, 100, 400])?;
+    table.try_extend_from_slice(&[0, 100, 400, 900])?;
     Ok(Setup {
         cascade: Cascade::new(stages).ok().ok_or("a stage in range")?,
         gain: Gain { g: 1, h: 0 },
@@ -148,11 +149,12 @@ fn machine_with_a_queue_of_one(rt: HostRuntime) -> Result<(), Fail> {
     expect_replies(&rt, alloc, &sites, &setup, events, &wanted)
 }
 
-/// Two lanes, two stations 40 km apart, and two areas, of which `a` has a target beside one station and one between.
+/// Two lanes, two stations 40 km apart, and two areas, of which `a` has a target beside one station and one between. An
+/// entry waits while the queue is full.
 #[test]
 fn lanes_and_areas(rt: HostRuntime) -> Result<(), Fail> {
     let alloc = rt.alloc();
-    let setup = setup_of(2, 16)?;
+    let setup = setup_of(2, 1)?;
     let targets = [("t1", "a", 0), ("t2", "b", 40_000), ("t3", "a", 20_000)];
     let sites = sites_of(&rt, alloc, &[0, 40_000], &targets)?;
     let events = vec![in alloc;
@@ -164,13 +166,20 @@ fn lanes_and_areas(rt: HostRuntime) -> Result<(), Fail> {
         Event::Offer(LaneNo(0)),
         take(alloc, 1, 6, 30, 20)?,
         Event::Pop,
+        Event::Offer(LaneNo(0)),
         Event::Append,
         Event::Append,
         Event::Publish,
+        Event::Learn(AreaNo(0), 2),
+        Event::Learn(AreaNo(0), 1),
+        Event::Learn(AreaNo(0), 0),
         Event::Read(AreaNo(0)),
         Event::Read(AreaNo(1)),
-        Event::Learn(AreaNo(0), 2),
-        Event::Learn(AreaNo(0), 0),
+        Event::Pop,
+        Event::Append,
+        Event::Read(AreaNo(0)),
+        Event::Publish,
+        Event::Read(AreaNo(0)),
     ]?;
     let wanted = [
         "Idle",
@@ -178,16 +187,40 @@ fn lanes_and_areas(rt: HostRuntime) -> Result<(), Fail> {
         "Held",
         "Took(Ready)",
         "Offered(Sent)",
-        "Offered(Sent)",
+        "Offered(Busy)",
         "Took(Repeat { last: Key { boot: 0, number: 7 } })",
         "Popped(Key { boot: 0, number: 7 })",
+        "Offered(Sent)",
         "Appended",
         "Nothing",
         "Published(1)",
-        "Read(Reading { front: 1, answers: Answers { items: [None, Some(Tenths(22))] } })",
-        "Read(Reading { front: 1, answers: Answers { items: [Some(Tenths(22))] } })",
         "Nothing",
         "Learned(1)",
+        "Learned(1)",
+        "Read(Reading { front: 1, answers: Answers { items: [None, Some(Tenths(22))] } })",
+        "Read(Reading { front: 1, answers: Answers { items: [Some(Tenths(22))] } })",
+        "Popped(Key { boot: 0, number: 0 })",
+        "Appended",
+        "Read(Reading { front: 1, answers: Answers { items: [None, Some(Tenths(22))] } })",
+        "Published(2)",
+        "Read(Reading { front: 2, answers: Answers { items: [Some(Tenths(21)), Some(Tenths(22))] } })",
     ];
     expect_replies(&rt, alloc, &sites, &setup, events, &wanted)
+}
+
+#[test]
+fn events_that_name_nothing(rt: HostRuntime) -> Result<(), Fail> {
+    let alloc = rt.alloc();
+    let setup = setup_of(2, 1)?;
+    let sites = sites_of(&rt, alloc, &[0], &[("t1", "a", 0)])?;
+    let events = [
+        take(alloc, 1, 0, 1, 0)?,
+        Event::Offer(LaneNo(2)),
+        Event::Read(AreaNo(1)),
+        Event::Learn(AreaNo(1), 0),
+    ];
+    for event in &events {
+        assert!(rt; !event.names_what_exists(&sites, &setup), "{event:?}");
+    }
+    Ok(())
 }

@@ -1,10 +1,14 @@
 -- What is known of a station's keys, one more packet on.
-use Rattle.std.proofs.Common.{◌≡◌, true, false, not, List, [], ◌∷◌, ◌++◌, Option, Some, None, MatchOption, All, inl, inr, refl, sym, ◌∙◌, ap, arith}
+use Rattle.std.proofs.Common.{◌≡◌, true, false, not, List, [], ◌∷◌, ◌++◌, Option, Some, None, MatchOption, All, inl, inr, refl, sym, ◌∙◌, ap, subst, arith, length-append}
 use Rattle.std.proofs.lemmas.Bool.{and_parts, cases_Bool}
 use Rattle.std.proofs.lemmas.Bool.Decides.{nat_tests}
 use Rattle.std.proofs.lemmas.List.Elements.{All-nil, All-cons, All-push}
+use Rattle.std.proofs.lemmas.List.{get_or_append_left}
+use Rattle.std.proofs.lemmas.List.Quantifiers.{Any-push}
+use Rattle.std.proofs.lemmas.Option.{none-some, same_Some}
+use Rattle.std.specs.Prelude.{Any}
 use Rattle.plum_base.specs.declared.numbers.Key.{Key}
-use Rattle.plum_seq.specs.Keys.{is_below, is_kept, last_kept, is_fresh, continues}
+use Rattle.plum_seq.specs.Keys.{is_below, is_kept, last_kept, is_fresh, continues, IsGreatestKey}
 use Rattle.plum_seq.specs.Judged.{Knows}
 use Rattle.plum_seq.proofs.Kept.{is_above, is_kept-is_above, last_kept-push, last_kept-push_repeat}
 use Rattle.plum_seq.proofs.Pushes.{by_push}
@@ -15,6 +19,11 @@ is_below-asymm a b below = grind (arith, nat_tests)
 
 is_below-irrefl : (a : Key) → is_below a a ≡ false
 is_below-irrefl a = grind (arith, nat_tests)
+
+-- what holds of an element of a list holds of one of the longer list
+Any-before : {X : Type 0} (P : X → Type 0) (xs : List X) (y : X) → Any P xs → Any P (xs ++ y ∷ [])
+Any-before P xs y (k, x, below, is, holds) =
+    (k, x, omega (arith, length-append xs (y ∷ [])), get_or_append_left xs (y ∷ []) x k below ∙ is, holds)
 
 module _ {W : Type 0} where
   -- no key of these packets is above this one
@@ -35,13 +44,27 @@ module _ {W : Type 0} where
   greatest-repeat ps p (Some key) not_above all = All-push (λ q. is_below key q.0 ≡ false) ps p all not_above
 
   -- no key is above the last kept one
-  last_kept-greatest : (ps : List (Key × W)) → MatchOption (last_kept ps) (ps ≡ []) (λ key. All (λ p. is_below key p.0 ≡ false) ps)
+  pub last_kept-greatest : (ps : List (Key × W)) → MatchOption (last_kept ps) (ps ≡ []) (λ key. All (λ p. is_below key p.0 ≡ false) ps)
   unfolding NoneAbove
   last_kept-greatest = by_push (λ ps. MatchOption (last_kept ps) (ps ≡ []) (NoneAbove ps)) refl (λ ps p before.
       elim (cases_Bool (is_kept ps p.0)) [
         | inl is ↦ rw (last_kept-push ps p is) (All-push (λ q. is_below p.0 q.0 ≡ false) ps p (NoneAbove-from_kept ps p.0 is) (is_below-irrefl p.0))
         | inr is ↦ rw (last_kept-push_repeat ps p is) (greatest-repeat ps p (last_kept ps) (sym (is_kept-is_above ps p.0) ∙ is) before)
       ])
+
+  -- it is the key of one of the packets
+  last_kept-one : (ps : List (Key × W)) (key : Key) → last_kept ps ≡ Some key → Any (λ p. p.0 ≡ key) ps
+  last_kept-one = by_push (λ ps. (key : Key) → last_kept ps ≡ Some key → Any (λ p. p.0 ≡ key) ps) (λ key is. absurd (none-some key is)) (λ ps p before key is.
+      elim (cases_Bool (is_kept ps p.0)) [
+        | inl kept ↦ Any-push (λ q. q.0 ≡ key) ps p (same_Some p.0 key (sym (last_kept-push ps p kept) ∙ is))
+        | inr repeat ↦ Any-before (λ q. q.0 ≡ key) ps p (before key (sym (last_kept-push_repeat ps p repeat) ∙ is))
+      ])
+
+  pub last_kept-is_greatest : (ps : List (Key × W)) (key : Key) → last_kept ps ≡ Some key → IsGreatestKey ps key
+  last_kept-is_greatest ps key is = record {
+    one = last_kept-one ps key is;
+    greatest = subst (λ o. MatchOption o (ps ≡ []) (λ k. All (λ p. is_below k p.0 ≡ false) ps)) is (last_kept-greatest ps);
+  }
 
   Knows-from_last : (known : Option Key) (ps : List (Key × W)) → known ≡ last_kept ps → Knows known ps
   Knows-from_last known ps is = record {

@@ -1,6 +1,6 @@
 -- Which packets of a station are kept, and which of these start a new run (the project's own rule of keys). A packet
 -- is a pair of its key and what it carries.
-use Rattle.std.specs.Prelude.{◌+◌, ◌-◌, Bool, true, not, ◌&&◌, ◌||◌, ◌==◌, nat_lt, if◌then◌else◌, List, [], ◌∷◌, ◌++◌, length, slice_get, Option, Some, None}
+use Rattle.std.specs.Prelude.{◌≡◌, ◌+◌, ◌-◌, Bool, true, false, not, ◌&&◌, ◌||◌, ◌==◌, nat_lt, if◌then◌else◌, List, [], ◌∷◌, ◌++◌, length, slice_get, Option, Some, None, All, Any}
 use Rattle.std.specs.List.{list_all}
 use Rattle.std.specs.Option.{option_map}
 use Rattle.plum_base.specs.declared.numbers.Key.{Key}
@@ -30,6 +30,11 @@ last xs = slice_get xs (length xs - 1)
 -- the key of the last kept one of a station's packets
 abbrev pub last_kept : {W : Type 0} → List (Key × W) → Option Key
 last_kept packets = option_map (λ p. p.0) (last (kept packets))
+
+-- The greatest key of these packets: that of one of them, and none of theirs is above it.
+pub record IsGreatestKey {W : Type 0} (packets : List (Key × W)) (key : Key) : Type 0 where
+  pub one : Any (λ p. p.0 ≡ key) packets
+  pub greatest : All (λ p. is_below key p.0 ≡ false) packets
 
 -- the same boot, and the next number
 abbrev pub continues : Key → Key → Bool

@@ -1,9 +1,9 @@
 //! The law of keys.
 
-ghost use Rattle.std.specs.Prelude.{◌≡◌, true, false, List, [], ◌∷◌, ◌++◌};
+ghost use Rattle.std.specs.Prelude.{◌≡◌, true, false, List, [], ◌∷◌, ◌++◌, Some};
 ghost use Rattle.plum_base.specs.declared.numbers.Key.{Key};
 ghost use Rattle.plum_base.specs.declared.wave.Sample.{Sample};
-ghost use Rattle.plum_seq.specs.Keys.{is_kept, kept, last_kept, is_fresh, marked};
+ghost use Rattle.plum_seq.specs.Keys.{is_kept, kept, last_kept, is_fresh, marked, IsGreatestKey};
 
 /// What one more packet does to the kept ones of a station's packets, and that the kept ones alone say the same.
 pub fn kept_keys()
@@ -16,6 +16,9 @@ pub fn kept_keys()
     // A kept packet is fresh or not by the last kept key before it; the marks of the others stay.
     ensures marks { (packets : List (Key × List Sample)) (p : Key × List Sample) → is_kept packets p.0 ≡ true
         → marked (packets ++ p ∷ []) ≡ marked packets ++ (is_fresh (last_kept packets) p.0, p.1) ∷ [] }
+
+    // The last kept key is the greatest key of all packets.
+    ensures greatest { (packets : List (Key × List Sample)) (key : Key) → last_kept packets ≡ Some key → IsGreatestKey packets key }
 
     // Of the kept packets alone all are kept, and a key is kept after them exactly where it is kept after all.
     ensures alone { (packets : List (Key × List Sample)) → kept (kept packets) ≡ kept packets }

@@ -61,7 +61,7 @@ returns-clause-texts g c =
           (c.in_ok-reading.ensures.front ∙ ap length c.deref.ensures.value)
           (subst (λ history. ArePredictions built_in_stations history built_in_targets c.in_ok-reading.reading.answers) c.deref.ensures.value
           (subst (λ name. ArePredictions built_in_stations c.deref.result.now (targets_of name built_in_targets) c.in_ok-reading.reading.answers) area
-          (rw (stations, targets) at c.in_ok-reading.ensures.answers)))
+          (rw (sites.0, sites.1) at c.in_ok-reading.ensures.answers)))
           (cc (c.len-bodies.ensures, c.len-kept.ensures))
           (rw (stations, c.deref-2.ensures.value) at c.in_ok-journal.ensures)
           (rw targets at c.in_ok-output.ensures);

@@ -12,7 +12,7 @@ use Rattle.plum_core.proofs.area.read_area.Goals.{then-eq+in_ok-push, else-eq}
 -- one target more
 pub loop-target-preserved : goal.loop-target-preserved
 loop-target-preserved c =
-    let targets = c.args.targets.now in
+    let targets = c.targets-targets.result.now in
     let area = c.args.area.now in
     let target = c.target-item.result in
     let front = take c.loop-target.target-index targets in
@@ -23,11 +23,12 @@ loop-target-preserved c =
       | then-eq+in_ok-push w ↦
           let of_area = after ∙ ap (λ b. filter test front ++ cond b (target ∷ []) []) (sym c.eq.ensures ∙ w.if-eq.true) in
           rw (one_more, ← c.target-item.is, of_area, w.answers-is, w.in_ok-push.ensures.ok)
-          (all_zipped_more (IsPrediction c.args.stations.now c.args.history.now) (targets_of area front) c.loop-target.answers target w.predict.result c.loop-target.invariant w.predict.ensures)
+          (all_zipped_more (IsPrediction c.stations-stations.result.now c.args.history.now) (targets_of area front) c.loop-target.answers target w.predict.result c.loop-target.invariant w.predict.ensures)
       | else-eq w ↦
           let of_another = after ∙ ap (λ b. filter test front ++ cond b (target ∷ []) []) (sym c.eq.ensures ∙ w.if-eq.false) ∙ append-nil (filter test front) in
           rw (one_more, ← c.target-item.is, of_another, w.answers-is) c.loop-target.invariant
     ]
 
 pub returns-clause-answers : goal.returns-clause-answers
-returns-clause-answers c = rw (take_all c.loop-target.target-index c.args.targets.now c.loop-target-test.false) at c.loop-target.invariant
+returns-clause-answers c =
+    rw (take_all c.loop-target.target-index c.targets-targets.result.now c.loop-target-test.false, c.stations-stations.ensures.value, c.targets-targets.ensures.value) at c.loop-target.invariant
