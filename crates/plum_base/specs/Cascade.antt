@@ -1,6 +1,7 @@
--- The ranges of a cascade's numbers (the project's own fixed point, for the recursive filters of Kunugi and
--- others 2013).
-use Rattle.std.specs.Prelude.{◌≡◌, ℕ, ◌^◌, ◌<◌, ◌≤◌, ℤ, pos, neg_ℤ, ◌≤ℤ◌, List, [], length, slice_get, All, IsSomeAnd}
+-- The ranges of a cascade's numbers (the project's own fixed point, for the recursive filters of
+-- Kunugi and others 2013).
+use Rattle.std.specs.Prelude.{◌≡◌, ℕ, ◌^◌, ◌<◌, ◌≤◌, ℤ, pos, neg_ℤ, ◌≤ℤ◌, List, [], length}
+use Rattle.std.specs.Prelude.{slice_get, All, IsSomeAnd}
 use Rattle.plum_base.specs.declared.cascade.Stage.{Stage}
 use Rattle.plum_base.specs.declared.cascade.CascadeFault.{CascadeFault}
 use Rattle.plum_base.specs.declared.cascade.CascadeFault.TheVariants as faults
@@ -29,4 +30,5 @@ pub record IsCascade (stages : List Stage) : Type 0 where
 abbrev pub IsFirstCascadeFault : List Stage → CascadeFault → Type 0
 IsFirstCascadeFault stages faults.Empty = stages ≡ []
 IsFirstCascadeFault stages (faults.Stage k) =
-    IsSomeAnd (slice_get stages k) (λ s. ¬ IsStage s) × ((j : ℕ) → j < k → IsSomeAnd (slice_get stages j) IsStage)
+    IsSomeAnd (slice_get stages k) (λ s. ¬ IsStage s)
+    × ((j : ℕ) → j < k → IsSomeAnd (slice_get stages j) IsStage)

@@ -1,11 +1,12 @@
 -- The threshold table (the project's own; the tenths it cuts are those of the JMA scale).
-use Rattle.std.specs.Prelude.{◌≡◌, ◌≢◌, ℕ, ◌-◌, ◌*◌, ◌^◌, ◌<◌, ◌≤◌, pos, neg_ℤ, ◌≤ℤ◌, List, [], length, slice_index}
+use Rattle.std.specs.Prelude.{◌≡◌, ◌≢◌, ℕ, ◌-◌, ◌*◌, ◌^◌, ◌<◌, ◌≤◌, pos, neg_ℤ, ◌≤ℤ◌, List, []}
+use Rattle.std.specs.Prelude.{length, slice_index}
 use Rattle.plum_base.specs.declared.numbers.Tenths.{Tenths}
 use Rattle.plum_base.specs.declared.levels.LevelFault.{LevelFault}
 use Rattle.plum_base.specs.declared.levels.LevelFault.TheVariants as faults
 
 -- squared amplitudes, and the tenth at which level 0 stands
-pub record Table : Type 0 where
+pub record LevelsView : Type 0 where
   pub thresholds : List ℕ
   pub base : Tenths
 
@@ -28,7 +29,7 @@ RisesUpTo ts n = (i : ℕ) → 0 < i → i < n → slice_index ts (i - 1) < slic
 abbrev pub IsWithinUpTo : List ℕ → ℕ → Type 0
 IsWithinUpTo ts n = (i : ℕ) → i < n → slice_index ts i ≤ greatest_amplitude
 
-pub record IsLevelTable (t : Table) : Type 0 where
+pub record IsLevelTable (t : LevelsView) : Type 0 where
   pub few : length t.thresholds ≤ 128
   pub start : StartsAtZero t.thresholds
   pub rises : RisesUpTo t.thresholds (length t.thresholds)
@@ -36,14 +37,16 @@ pub record IsLevelTable (t : Table) : Type 0 where
   pub base : IsFactor t.base
 
 -- the first broken rule, where the rules stand in the order of the variants
-abbrev pub IsFirstLevelFault : Table → LevelFault → Type 0
+abbrev pub IsFirstLevelFault : LevelsView → LevelFault → Type 0
 IsFirstLevelFault t faults.Empty = t.thresholds ≡ []
 IsFirstLevelFault t faults.First = (0 < length t.thresholds) × (slice_index t.thresholds 0 ≢ 0)
 IsFirstLevelFault t (faults.Order i) =
     StartsAtZero t.thresholds × RisesUpTo t.thresholds i
-    × (0 < i) × (i < length t.thresholds) × (slice_index t.thresholds i ≤ slice_index t.thresholds (i - 1))
+    × (0 < i) × (i < length t.thresholds) × (slice_index t.thresholds i ≤ slice_index t.thresholds
+    (i - 1))
 IsFirstLevelFault t (faults.Above i) =
-    StartsAtZero t.thresholds × RisesUpTo t.thresholds (length t.thresholds) × IsWithinUpTo t.thresholds i
+    StartsAtZero t.thresholds × RisesUpTo t.thresholds (length t.thresholds)
+    × IsWithinUpTo t.thresholds i
     × (i < length t.thresholds) × (greatest_amplitude < slice_index t.thresholds i)
 IsFirstLevelFault t faults.Base =
     StartsAtZero t.thresholds × RisesUpTo t.thresholds (length t.thresholds)

@@ -2,4 +2,5 @@ pub mod Name
 pub mod Cascade
 pub mod Levels
 pub mod Setup
+pub mod Lane
 pub mod Sites

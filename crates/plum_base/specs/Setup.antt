@@ -1,9 +1,10 @@
 -- The ranges of a setup's numbers (the project's own).
 use Rattle.std.specs.Prelude.{ℕ, ◌^◌, ◌≤◌}
 use Rattle.plum_base.specs.declared.rules.Class.{Class}
-use Rattle.plum_base.specs.declared.rules.Class.TheVariants.{C0, C1, C2, C3, C4, C5Lower, C5Upper, C6Lower, C6Upper, C7}
+use Rattle.plum_base.specs.declared.rules.Class.TheVariants.{C0, C1, C2, C3, C4, C5Lower, C5Upper}
+use Rattle.plum_base.specs.declared.rules.Class.TheVariants.{C6Lower, C6Upper, C7}
 
--- the place of a class on the JMA scale, from the weakest
+-- the rank of a class on the JMA scale, from the weakest
 abbrev pub rank_of : Class → ℕ
 rank_of C0 = 0
 rank_of C1 = 1

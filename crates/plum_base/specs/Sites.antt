@@ -1,5 +1,6 @@
 -- What a list of stations and a list of targets must keep (the project's own limits).
-use Rattle.std.specs.Prelude.{◌≡◌, ◌≢◌, ℕ, not, ◌≤◌, pos, ◌≤ℤ◌, List, [], ◌∷◌, Some, length, map, filter, slice_get, nat_eq, All, AllPairs, IsSomeAnd}
+use Rattle.std.specs.Prelude.{◌≡◌, ◌≢◌, ℕ, ℤ, not, ◌≤◌, pos, ◌≤ℤ◌, List, [], ◌∷◌, Some, length, map}
+use Rattle.std.specs.Prelude.{filter, slice_get, nat_eq, All, AllPairs, IsSomeAnd}
 use Rattle.std.specs.Cmp.Lexicographic.{pointwise}
 use Rattle.plum_base.specs.declared.numbers.AreaNo.{AreaNo}
 use Rattle.plum_base.specs.declared.numbers.Point.{Point}
@@ -7,14 +8,28 @@ use Rattle.plum_base.specs.declared.sites.StationSite.{StationSite}
 use Rattle.plum_base.specs.declared.sites.TargetSite.{TargetSite}
 use Rattle.plum_base.specs.Levels.{IsFactor}
 
+-- how many stations, targets and areas there are at most
+abbrev pub MOST_STATIONS : ℕ
+MOST_STATIONS = 4096
+
+abbrev pub MOST_TARGETS : ℕ
+MOST_TARGETS = 8192
+
+abbrev pub MOST_AREAS : ℕ
+MOST_AREAS = 64
+
+-- the greatest coordinate of the grid, in metres
+abbrev pub GRID_END : ℤ
+GRID_END = pos 4194303
+
 -- both lists, in file order
-pub record Lists : Type 0 where
+pub record SitesView : Type 0 where
   pub stations : List StationSite
   pub targets : List TargetSite
 
--- on the grid: 0 to 4,194,303 metres each way
+-- on the grid: from 0 to its end, in metres, each way
 abbrev pub IsPlace : Point → Type 0
-IsPlace p = (pos 0 ≤ℤ p.x) × (p.x ≤ℤ pos 4194303) × (pos 0 ≤ℤ p.y) × (p.y ≤ℤ pos 4194303)
+IsPlace p = (pos 0 ≤ℤ p.x) × (p.x ≤ℤ GRID_END) × (pos 0 ≤ℤ p.y) × (p.y ≤ℤ GRID_END)
 
 -- each member once, where it stands first
 abbrev pub first_appearances : List (List ℕ) → List (List ℕ)
@@ -26,9 +41,9 @@ abbrev pub areas_of : List TargetSite → List (List ℕ)
 areas_of targets = first_appearances (map (λ t. t.area) targets)
 
 pub record AreLawful (stations : List StationSite) (targets : List TargetSite) : Type 0 where
-  pub few_stations : length stations ≤ 4096
-  pub few_targets : length targets ≤ 8192
-  pub few_areas : length (areas_of targets) ≤ 64
+  pub few_stations : length stations ≤ MOST_STATIONS
+  pub few_targets : length targets ≤ MOST_TARGETS
+  pub few_areas : length (areas_of targets) ≤ MOST_AREAS
   pub station_places : All (λ s. IsPlace s.at) stations
   pub station_factors : All (λ s. IsFactor s.factor) stations
   pub target_places : All (λ t. IsPlace t.at) targets

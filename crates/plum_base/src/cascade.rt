@@ -1,6 +1,7 @@
 //! The cascade of recursive stages that filters each component.
 
-ghost use Rattle.std.specs.Prelude.{◌≡◌, ◌↔◌, ◌<◌, ℕ, All, slice_get, IsTrue, IsSomeAnd, IfOk, IfErr, IfSome, IfNone};
+ghost use Rattle.std.specs.Prelude.{◌≡◌, ◌↔◌, ◌<◌, ℕ, All, slice_get, IsTrue, IsSomeAnd, IfOk};
+ghost use Rattle.std.specs.Prelude.{IfErr, IfSome, IfNone};
 ghost use Rattle.plum_base.specs.Cascade.{IsCoefficient, IsStage, IsCascade, IsFirstCascadeFault};
 
 use arrayvec::ArrayVec;
@@ -26,8 +27,8 @@ pub struct Stage {
     pub round: Rounding,
 }
 
-/// What is wrong with a list of stages: there is none, or the stage at that place, from 0, is the first with a
-/// number out of its range.
+/// What is wrong with a list of stages: there is none, or the stage at that position, from 0, is
+/// the first with a number out of its range.
 #[derive(Clone, Copy, Debug, PartialEq, Eq)]
 pub enum CascadeFault {
     Empty,

@@ -1,14 +1,17 @@
 //! The threshold table that turns squared amplitudes into tenths of intensity.
 
-ghost use Rattle.std.specs.Prelude.{◌≡◌, ◌-◌, ◌<◌, ◌≤◌, length, slice_index, IfOk, IfErr, IfSome, IfNone, IsTrue, ◌↔◌};
-ghost use Rattle.plum_base.specs.Levels.{IsFactor, RisesUpTo, IsWithinUpTo, greatest_amplitude, IsLevelTable, IsFirstLevelFault};
+ghost use Rattle.std.specs.Prelude.{◌≡◌, ◌-◌, ◌<◌, ◌≤◌, length, slice_index, IfOk, IfErr, IfSome};
+ghost use Rattle.std.specs.Prelude.{IfNone, IsTrue, ◌↔◌};
+ghost use Rattle.plum_base.specs.Levels.{IsFactor, RisesUpTo, IsWithinUpTo, greatest_amplitude};
+ghost use Rattle.plum_base.specs.Levels.{IsLevelTable, IsFirstLevelFault};
 
 use crate::numbers::Tenths;
 use arrayvec::ArrayVec;
 use std::marker::Model;
 
-/// What is wrong first with a table: no entry, entry 0 is not 0, the entry at that place is the first not greater
-/// than its predecessor, the first above 3 * 2^60, or the base is out of -100 to 100 tenths.
+/// What is wrong first with a table: no entry, entry 0 is not 0, the entry at that position is the
+/// first not greater than its predecessor, the first above 3 * 2^60, or the base is out of -100 to
+/// 100 tenths.
 #[derive(Clone, Copy, Debug, PartialEq, Eq)]
 pub enum LevelFault {
     Empty,
@@ -18,7 +21,8 @@ pub enum LevelFault {
     Base,
 }
 
-/// 1 to 128 strictly rising squared amplitudes, the first of them 0, and the tenth at which they begin.
+/// 1 to 128 strictly rising squared amplitudes, the first of them 0, and the tenth at which they
+/// begin.
 #[derive(Debug, Drop)]
 pub struct Levels {
     thresholds: ArrayVec<u64, 128>,
@@ -26,13 +30,17 @@ pub struct Levels {
 }
 
 impl Model for Levels {
-    ghost use Rattle.plum_base.specs.Levels.{Table, IsLevelTable};
+    ghost use Rattle.plum_base.specs.Levels.{LevelsView, IsLevelTable};
 
-    ghost Value = { Table };
+    ghost Value = { LevelsView };
 
     ghost view = { λ l. record { thresholds = l.thresholds.items; base = l.base } };
 
-    ghost invariant = { λ l. IsLevelTable (record { thresholds = l.thresholds.items; base = l.base }) };
+    ghost invariant = { λ l. IsLevelTable (record {
+      thresholds = l.thresholds.items;
+      base =
+          l.base;
+    }) };
 }
 
 /// The greatest squared amplitude: three components of 2^30.
@@ -40,7 +48,8 @@ const GREATEST: u64 = 3 << 60;
 
 /// The first entry that is not greater than its predecessor.
 fn first_not_rising(thresholds: &[u64]) -> Option<usize>
-    ensures found { IfSome result (λ i. (0 < i) × (i < length thresholds.now) × RisesUpTo thresholds.now i
+    ensures found { IfSome result (λ i. (0 < i) × (i < length thresholds.now)
+        × RisesUpTo thresholds.now i
         × (slice_index thresholds.now i ≤ slice_index thresholds.now (i - 1))) }
     ensures none { IfNone result (RisesUpTo thresholds.now (length thresholds.now)) }
 {
@@ -76,8 +85,10 @@ pub(crate) fn is_factor(t: Tenths) -> bool
 impl Levels {
     /// The table of these thresholds, where level i stands for base + i tenths.
     pub fn new(thresholds: ArrayVec<u64, 128>, base: Tenths) -> Result<Levels, LevelFault>
-        ensures ok { IfOk result (λ l. (l ≡ record { thresholds = thresholds.items; base = base }) × IsLevelTable l) }
-        ensures fault { IfErr result (IsFirstLevelFault (record { thresholds = thresholds.items; base = base })) }
+        ensures ok { IfOk result (λ l. (l ≡ record { thresholds = thresholds.items; base = base })
+            × IsLevelTable l) }
+        ensures fault { IfErr result (IsFirstLevelFault
+            (record { thresholds = thresholds.items; base = base })) }
     {
         match thresholds.as_slice().first() {
             None => return Err(LevelFault::Empty),

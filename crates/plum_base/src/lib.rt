@@ -1,4 +1,7 @@
-//! The types that every layer shares. Each keeps its ranges, so that no layer tests them again.
+//! The types that every layer shares: numbers, packets, waves, entries, readings, setups and sites.
+//!
+//! It promises that each value keeps its ranges, so that no layer tests them again. It knows
+//! nothing of files, of captures, or of how anything is worked out.
 #![tactic(auto)]
 
 mod answers;
@@ -14,15 +17,13 @@ mod packet;
 mod rules;
 mod setup;
 mod sites;
-#[cfg(test)]
-mod tests;
 mod wave;
 
 pub use answers::{Answers, Reading};
 pub use bytes::Bytes;
 pub use cascade::{Cascade, CascadeFault, Rounding, Stage};
 pub use entry::Entry;
-pub use lane::{Offered, Took};
+pub use lane::{Offered, Took, lane_of};
 pub use levels::{LevelFault, Levels};
 pub use memory::{NoMemory, Shut};
 pub use name::Name;

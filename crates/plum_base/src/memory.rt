@@ -1,4 +1,4 @@
-//! Answers for what the machine refuses.
+//! What is told where something is refused.
 
 use std::alloc::{AllocError, AllocFailed};
 

@@ -14,8 +14,9 @@ pub struct Gain {
     pub h: u8,
 }
 
-/// A setup with each number in its range: a gain of 1 to 2^31 over 2^0 to 2^31, a cancel class not above the raise
-/// class, 1 to 1,000 calm readings, 1 to 16 lanes and a queue of 1 to 65,536 entries.
+/// A setup with each number in its range: a gain of 1 to 2^31 over 2^0 to 2^31, a cancel class not
+/// above the raise class, 1 to 1,000 calm readings, 1 to 16 lanes and a queue of 1 to 65,536
+/// entries.
 #[derive(Debug, Drop)]
 pub struct Setup {
     pub cascade: Cascade,

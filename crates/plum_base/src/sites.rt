@@ -1,6 +1,7 @@
 //! The stations and the targets of a centre.
 
-ghost use Rattle.std.specs.Prelude.{◌≡◌, ◌≢◌, ◌↔◌, ◌<◌, ◌≤◌, length, slice_get, All, AllPairs, Any, IsTrue, IfOk, Some, IfSome, IfNone, IsSomeAnd};
+ghost use Rattle.std.specs.Prelude.{◌≡◌, ◌≢◌, ◌↔◌, ◌<◌, ◌≤◌, length, slice_get, All, AllPairs, Any};
+ghost use Rattle.std.specs.Prelude.{IsTrue, IfOk, Some, IfSome, IfNone, IsSomeAnd};
 ghost use Rattle.std.specs.List.{HoldsAt};
 ghost use Rattle.plum_base.specs.Levels.{IsFactor};
 ghost use Rattle.plum_base.specs.Sites.{IsPlace, areas_of, AreNumbered, AreLawful, HasCode};
@@ -29,17 +30,18 @@ pub struct TargetSite {
     pub factor: Tenths,
 }
 
-const MOST_STATIONS: usize = 4096;
+/// The most stations, targets and areas of a centre.
+pub const MOST_STATIONS: usize = 4096;
 
-const MOST_TARGETS: usize = 8192;
+pub const MOST_TARGETS: usize = 8192;
 
-const MOST_AREAS: usize = 64;
+pub const MOST_AREAS: usize = 64;
 
 /// The last metre of the grid, each way.
-const GRID_END: i32 = 4_194_303;
+pub const GRID_END: i32 = 4_194_303;
 
-/// At most 4,096 stations of distinct codes and 8,192 targets of distinct names in 64 areas, all on the grid.
-/// Contracts see both lists.
+/// At most 4,096 stations of distinct codes and 8,192 targets of distinct names in 64 areas, all on
+/// the grid. Contracts see both lists.
 #[derive(Debug, Drop)]
 pub struct Sites {
     stations: Vec<StationSite>,
@@ -52,14 +54,15 @@ pub struct Sites {
 
 impl Model for Sites {
     ghost use Rattle.std.specs.Prelude.{◌≡◌};
-    ghost use Rattle.plum_base.specs.Sites.{Lists, areas_of, AreNumbered, AreLawful};
+    ghost use Rattle.plum_base.specs.Sites.{SitesView, areas_of, AreNumbered, AreLawful};
 
-    ghost Value = { Lists };
+    ghost Value = { SitesView };
 
     ghost view = { λ s. record { stations = s.stations.items; targets = s.targets.items } };
 
     ghost invariant = { λ s. AreLawful s.stations.items s.targets.items
-        × (s.areas.items ≡ areas_of s.targets.items) × AreNumbered s.targets.items s.numbers.items };
+        × (s.areas.items ≡ areas_of s.targets.items)
+        × AreNumbered s.targets.items s.numbers.items };
 }
 
 impl Sites {
@@ -70,7 +73,11 @@ impl Sites {
         targets: Vec<TargetSite>,
     ) -> Result<Sites, NoMemory>
         requires { AreLawful stations.items targets.items }
-        ensures { IfOk result (λ s. s ≡ record { stations = stations.items; targets = targets.items }) }
+        ensures { IfOk result (λ s. s ≡ record {
+          stations = stations.items;
+          targets =
+              targets.items;
+        }) }
     {
         let areas = areas_in(alloc, targets.as_slice())?;
         let numbers = numbers_in(alloc, targets.as_slice(), areas.as_slice())?;
@@ -87,8 +94,8 @@ impl Sites {
         ensures found { IfSome result (λ n. HasCode self.now.stations n.0 code) }
         ensures none { IfNone result (All (λ s. s.code ≢ code) self.now.stations) }
     {
-        let place = self.stations.iter().position(|s| s.code == code)?;
-        Some(StationNo(place as u16))
+        let position = self.stations.iter().position(|s| s.code == code)?;
+        Some(StationNo(position as u16))
     }
 
     pub fn stations(&self) -> &[StationSite]
@@ -123,7 +130,8 @@ impl Sites {
     /// The area of a target.
     pub fn area_of(&self, target: TargetNo) -> AreaNo
         requires { target.0 < length self.now.targets }
-        ensures { IsSomeAnd (slice_get self.now.targets target.0) (λ t. slice_get (areas_of self.now.targets) result.0 ≡ Some t.area) }
+        ensures { IsSomeAnd (slice_get self.now.targets target.0)
+            (λ t. slice_get (areas_of self.now.targets) result.0 ≡ Some t.area) }
     {
         self.numbers[target.0 as usize]
     }
@@ -157,23 +165,24 @@ fn areas_in(alloc: Global, targets: &[TargetSite]) -> Result<Vec<Name>, NoMemory
     Ok(areas)
 }
 
-fn place_of(areas: &[Name], area: &Name) -> Option<usize>
-    ensures found { IfSome result (λ k. (k < length areas.now) × HoldsAt (λ a. a ≡ area.now) areas.now k) }
+fn position_of(areas: &[Name], area: &Name) -> Option<usize>
+    ensures found { IfSome result (λ k. (k < length areas.now)
+        × HoldsAt (λ a. a ≡ area.now) areas.now k) }
     ensures none { IfNone result (All (λ a. a ≢ area.now) areas.now) }
 {
     areas.iter().position(|a| *a == *area)
 }
 
-/// The number of an area among at most 64.
-fn number_of(areas: &[Name], area: &Name) -> AreaNo
-    requires few { length areas.now ≤ 64 }
+/// The number of an area among those of a centre.
+fn area_number(areas: &[Name], area: &Name) -> AreaNo
+    requires few { length areas.now ≤ MOST_AREAS }
     requires one { Any (λ a. a ≡ area.now) areas.now }
     ensures { slice_get areas.now result.0 ≡ Some area.now }
 {
-    let Some(place) = place_of(areas, area) else {
+    let Some(position) = position_of(areas, area) else {
         unreachable!()
     };
-    AreaNo(place as u16)
+    AreaNo(position as u16)
 }
 
 /// The number of each target's area.
@@ -182,13 +191,13 @@ fn numbers_in(
     targets: &[TargetSite],
     areas: &[Name],
 ) -> Result<Vec<AreaNo>, NoMemory>
-    requires few { length areas.now ≤ 64 }
+    requires few { length areas.now ≤ MOST_AREAS }
     requires all { areas.now ≡ areas_of targets.now }
     ensures { IfOk result (λ v. AreNumbered targets.now v.items) }
 {
     let mut numbers = Vec::new(alloc);
     for target in targets {
-        numbers.push(number_of(areas, &target.area))?;
+        numbers.push(area_number(areas, &target.area))?;
     }
     Ok(numbers)
 }
@@ -236,8 +245,8 @@ fn has_area(targets: &[TargetSite], area: &Name) -> bool
     targets.iter().any(|t| t.area == *area)
 }
 
-// The lists are read once, when the centre starts, so comparing each member with all before it is fast enough, and
-// it needs no memory.
+// The lists are read once, when the centre starts, so comparing each member with all before it is
+// fast enough, and it needs no memory.
 fn are_codes_distinct(stations: &[StationSite]) -> bool
     ensures { IsTrue result ↔ AllPairs (λ a b. a.code ≢ b.code) stations.now }
 {
@@ -260,7 +269,7 @@ fn are_names_distinct(targets: &[TargetSite]) -> bool
     true
 }
 
-/// How many areas the targets have: each counts at the first target that names it.
+/// How many areas the targets have: each is counted at the first target that names it.
 fn area_count(targets: &[TargetSite]) -> usize
     ensures { result ≡ length (areas_of targets.now) }
 {
@@ -274,7 +283,8 @@ fn area_count(targets: &[TargetSite]) -> usize
 }
 
 fn are_stations_lawful(stations: &[StationSite]) -> bool
-    ensures { IsTrue result ↔ (length stations.now ≤ 4096) × All (λ s. IsPlace s.at × IsFactor s.factor) stations.now
+    ensures { IsTrue result ↔ (length stations.now ≤ MOST_STATIONS)
+        × All (λ s. IsPlace s.at × IsFactor s.factor) stations.now
         × AllPairs (λ a b. a.code ≢ b.code) stations.now }
 {
     stations.len() <= MOST_STATIONS
@@ -283,8 +293,10 @@ fn are_stations_lawful(stations: &[StationSite]) -> bool
 }
 
 fn are_targets_lawful(targets: &[TargetSite]) -> bool
-    ensures { IsTrue result ↔ (length targets.now ≤ 8192) × All (λ t. IsPlace t.at × IsFactor t.factor) targets.now
-        × AllPairs (λ a b. a.name ≢ b.name) targets.now × (length (areas_of targets.now) ≤ 64) }
+    ensures { IsTrue result ↔ (length targets.now ≤ MOST_TARGETS)
+        × All (λ t. IsPlace t.at × IsFactor t.factor) targets.now
+        × AllPairs (λ a b. a.name ≢ b.name) targets.now
+        × (length (areas_of targets.now) ≤ MOST_AREAS) }
 {
     targets.len() <= MOST_TARGETS
         && are_targets_in_range(targets)

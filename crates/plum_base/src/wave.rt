@@ -1,6 +1,6 @@
 //! The samples of a packet.
 
-ghost use Rattle.std.specs.Prelude.{◌≡◌, ◌<◌, ◌≤◌, List, [], ◌∷◌, ◌++◌, length, OnOk, OnErr, IfOk};
+ghost use Rattle.std.specs.Prelude.{◌≡◌, ◌<◌, ◌≤◌, [], ◌∷◌, ◌++◌, length, OnOk, OnErr, IfOk};
 
 use crate::memory::NoMemory;
 use std::alloc::Global;
@@ -23,12 +23,13 @@ pub struct Wave {
 impl Model for Wave {
     ghost use Rattle.std.specs.Prelude.{List, ◌≤◌, length};
     ghost use Rattle.plum_base.specs.declared.wave.Sample.{Sample};
+    ghost use Rattle.plum_base.specs.declared.wave.TheConstants.Wave.{MAX};
 
     ghost Value = { List Sample };
 
     ghost view = { λ w. w.samples.items };
 
-    ghost invariant = { λ w. length w.samples.items ≤ 6000 };
+    ghost invariant = { λ w. length w.samples.items ≤ MAX };
 }
 
 impl Wave {
@@ -43,9 +44,18 @@ impl Wave {
         })
     }
 
+    /// An empty wave with room for so many samples, all taken at once.
+    pub fn with_capacity(alloc: Global, samples: usize) -> Result<Wave, NoMemory>
+        ensures { IfOk result (λ w. w ≡ []) }
+    {
+        Ok(Wave {
+            samples: Vec::with_capacity(alloc, samples)?,
+        })
+    }
+
     /// Appends a sample.
     pub fn push(&mut self, sample: Sample) -> Result<(), NoMemory>
-        requires { length self.old < 6000 }
+        requires { length self.old < Self.MAX }
         ensures ok { OnOk result (self.new ≡ self.old ++ sample ∷ []) }
         ensures err { OnErr result (self.new ≡ self.old) }
     {
@@ -55,7 +65,7 @@ impl Wave {
 
     pub fn as_slice(&self) -> &[Sample]
         ensures value { result.now ≡ self.now }
-        ensures bound { length self.now ≤ 6000 }
+        ensures bound { length self.now ≤ Self.MAX }
     {
         self.samples.as_slice()
     }
