@@ -1,6 +1,10 @@
 -- Counts of faults.
-use Rattle.std.specs.Prelude.{ℕ, ◌+◌, ◌-◌, ◌^◌, ◌≤◌, min}
+use Rattle.std.specs.Prelude.{◌≡◌, ℕ, ◌+◌, ◌-◌, ◌^◌, min, max}
 
--- The count rose, or stands at 2^64 - 1, where it ends.
+-- the count after one more fault: at 2^64 - 1, where it ends, it stands still
+abbrev pub one_more : ℕ → ℕ
+one_more count = max count (min (count + 1) (2 ^ 64 - 1))
+
+-- One fault was counted.
 abbrev pub HasRisen : ℕ → ℕ → Type 0
-HasRisen before now = min (before + 1) (2 ^ 64 - 1) ≤ now
+HasRisen before now = now ≡ one_more before

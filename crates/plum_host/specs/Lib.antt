@@ -1,3 +1,5 @@
 pub mod Told
+pub mod Frames
 pub mod Faults
 pub mod Memory
+pub mod Paths

@@ -1,10 +1,10 @@
 //! What a host is.
 
-ghost use Rattle.std.specs.Prelude.{◌≡◌, ◌≢◌, ℕ, ◌<◌, ◌≤◌, List, [], length, take, Option, Some, IfOk, IfSome, OnErr, IsErrOf};
-ghost use Rattle.plum_host.specs.declared.host.In.{In};
-ghost use Rattle.plum_host.specs.declared.host.To.{To};
+ghost use Rattle.std.specs.Prelude.{◌≡◌, ◌<◌, ◌≤◌, ◌⊎◌, [], length, take, IfOk, IfSome, OnOk};
+ghost use Rattle.std.specs.Prelude.{OnErr, IsErrOf};
 ghost use Rattle.plum_host.specs.Faults.{HasRisen};
-ghost use Rattle.plum_host.specs.Told.{Takes, Appends};
+ghost use Rattle.plum_host.specs.Frames.{OnlyReads, OnlyWrites};
+ghost use Rattle.plum_host.specs.Told.{HostView, Takes, Appends};
 
 /// The inputs.
 #[derive(Clone, Copy, Debug, PartialEq, Eq)]
@@ -37,46 +37,44 @@ pub enum WriteRefusal {
 
 /// Where the inputs come from and the outputs go.
 pub trait Host {
-    /// What is left of each input, where the host tells it.
-    ghost left: { Self → In → Option (List ℕ) };
+    /// What it tells of them, and of its faults.
+    ghost told: { Self → HostView };
 
-    /// What each output holds, where the host tells it.
-    ghost held: { Self → To → Option (List ℕ) };
-
-    /// How often a read has failed. It never falls.
-    ghost read_faults: { Self → ℕ };
-
-    /// How often a write has failed, or took nothing of a piece. It never falls.
-    ghost write_faults: { Self → ℕ };
-
-    /// Moves the next bytes of an input to the front of the buffer, and tells how many: 0 for a buffer that is not
-    /// empty is the end of that input.
+    /// Moves the next bytes of an input to the start of the buffer, and tells how many: 0 for a
+    /// buffer that is not empty is the end of that input.
     fn read(&mut self, file: In, buf: &mut [u8]) -> Result<usize, Failed>
         ensures count { IfOk result (λ n. n ≤ length buf.old) }
-        ensures taken { IfOk result (λ n. Takes (left self.old file) (left self.new file) n buf.new) }
-        ensures ended { result ≡ Ok 0 → 0 < length buf.old → IfSome (left self.old file) (λ bytes. bytes ≡ []) }
+        ensures taken { IfOk result (λ n.
+            Takes ((told self.old).left file) ((told self.new).left file) n buf.new) }
+        ensures ended { result ≡ Ok 0 → 0 < length buf.old
+            → IfSome ((told self.old).left file) (λ bytes. bytes ≡ []) }
 
-        // A read that failed took nothing, and was counted.
-        ensures failed { OnErr result (left self.new file ≡ left self.old file) }
-        ensures cause { OnErr result (HasRisen (read_faults self.old) (read_faults self.new)) }
+        // A read that failed took nothing, and is one fault more. No other read is a fault.
+        ensures failed { OnErr result ((told self.new).left file ≡ (told self.old).left file) }
+        ensures fault { OnErr result
+            (HasRisen (told self.old).read_faults (told self.new).read_faults) }
+        ensures no_fault { OnOk result
+            ((told self.new).read_faults ≡ (told self.old).read_faults) }
 
-        ensures other_inputs { (other : In) → other ≢ file → left self.new other ≡ left self.old other }
-        ensures outputs { (to : To) → held self.new to ≡ held self.old to }
-        ensures read_faults { read_faults self.old ≤ read_faults self.new }
-        ensures write_faults { write_faults self.new ≡ write_faults self.old };
+        ensures frame { OnlyReads file (told self.old) (told self.new) };
 
     /// Appends a front of the piece to an output, and tells how long it is.
     fn write(&mut self, file: To, bytes: &[u8]) -> Result<usize, WriteRefusal>
         ensures count { IfOk result (λ n. n ≤ length bytes.now) }
-        ensures appended { IfOk result (λ n. Appends (held self.old file) (held self.new file) (take n bytes.now)) }
+        ensures appended { IfOk result (λ n.
+            Appends ((told self.old).held file) ((told self.new).held file) (take n bytes.now)) }
+        ensures refused { OnErr result ((told self.new).held file ≡ (told self.old).held file) }
 
-        // A refused write appends nothing. One that failed, or took nothing of a piece, was counted.
-        ensures refused { OnErr result (held self.new file ≡ held self.old file) }
-        ensures failed { IsErrOf result WriteRefusal.Failed → HasRisen (write_faults self.old) (write_faults self.new) }
-        ensures nothing { result ≡ Ok 0 → 0 < length bytes.now → HasRisen (write_faults self.old) (write_faults self.new) }
+        // A write that failed, or took nothing of a piece that is not empty, is one fault more.
+        // No other write is a fault.
+        ensures failed { IsErrOf result WriteRefusal.Failed
+            → HasRisen (told self.old).write_faults (told self.new).write_faults }
+        ensures nothing { result ≡ Ok 0 → 0 < length bytes.now
+            → HasRisen (told self.old).write_faults (told self.new).write_faults }
+        ensures no_memory { IsErrOf result WriteRefusal.NoMemory
+            → (told self.new).write_faults ≡ (told self.old).write_faults }
+        ensures no_fault { IfOk result (λ n. (0 < n) ⊎ (length bytes.now ≡ 0)
+            → (told self.new).write_faults ≡ (told self.old).write_faults) }
 
-        ensures other_output { (other : To) → other ≢ file → held self.new other ≡ held self.old other }
-        ensures inputs { (input : In) → left self.new input ≡ left self.old input }
-        ensures read_faults { read_faults self.new ≡ read_faults self.old }
-        ensures write_faults { write_faults self.old ≤ write_faults self.new };
+        ensures frame { OnlyWrites file (told self.old) (told self.new) };
 }

@@ -1,4 +1,7 @@
-//! Inputs and outputs: what a host promises, the loops over its calls, a host over memory and one over files.
+//! Inputs and outputs. Owns what a host is: what it tells of them, and how it counts faults.
+//! Promises whole pieces (`put_all`), a host over memory that tells all, and one over files, the
+//! trusted edge, that tells its counts alone.
+//! Must not know what the bytes mean.
 #![tactic(auto)]
 
 mod host;
@@ -6,11 +9,9 @@ mod memory;
 mod paths;
 mod put;
 mod standard;
-#[cfg(test)]
-mod tests;
 
 pub use host::{Failed, Host, In, To, WriteRefusal};
 pub use memory::{MemFiles, MemHost};
 pub use paths::{PathText, Paths};
-pub use put::{PutFault, put_all};
+pub use put::put_all;
 pub use standard::StdHost;

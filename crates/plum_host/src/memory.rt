@@ -1,8 +1,6 @@
-//! A host over memory, for tests and for the drill.
+//! A host over memory, for tests.
 
-ghost use Rattle.std.specs.Prelude.{◌≡◌, ℕ, min, [], length, take, drop, Some, IfOk};
-ghost use Rattle.plum_host.specs.declared.host.In.{In};
-ghost use Rattle.plum_host.specs.declared.host.To.{To};
+ghost use Rattle.std.specs.Prelude.{◌≡◌, min, [], length, take, drop, IfOk};
 
 use crate::host::{Failed, Host, In, To, WriteRefusal};
 use plum_base::{Bytes, NoMemory};
@@ -58,7 +56,8 @@ impl Input {
     }
 }
 
-/// A host whose inputs and outputs lie in memory, and whose calls never fail but for want of memory.
+/// A host whose inputs and outputs lie in memory, and whose calls never fail but for want of
+/// memory.
 #[derive(Debug, Drop)]
 pub struct MemHost {
     setup: Input,
@@ -72,9 +71,9 @@ pub struct MemHost {
 }
 
 impl Model for MemHost {
-    ghost use Rattle.plum_host.specs.Memory.{Memory};
+    ghost use Rattle.plum_host.specs.Memory.{MemHostView};
 
-    ghost Value = { Memory };
+    ghost Value = { MemHostView };
 
     ghost view = { λ h. record {
       setup = h.setup;
@@ -129,16 +128,9 @@ impl MemHost {
 }
 
 impl Host for MemHost {
-    ghost use Rattle.std.specs.Prelude.{Some};
-    ghost use Rattle.plum_host.specs.Memory.{left_of, held_by};
+    ghost use Rattle.plum_host.specs.Memory.{told_by};
 
-    ghost left = { λ h file. Some (left_of h file) };
-
-    ghost held = { λ h file. Some (held_by h file) };
-
-    ghost read_faults = { λ _. 0 };
-
-    ghost write_faults = { λ _. 0 };
+    ghost told = { told_by };
 
     fn read(&mut self, file: In, buf: &mut [u8]) -> Result<usize, Failed> {
         Ok(match file {

@@ -2,6 +2,7 @@
 
 ghost use Rattle.std.specs.Prelude.{◌≡◌, IfOk};
 
+use crate::host::In;
 use plum_base::NoMemory;
 use std::alloc::Global;
 use std::marker::Model;
@@ -45,4 +46,23 @@ pub struct Paths {
     pub capture: PathText,
     pub journal: PathText,
     pub output: PathText,
+}
+
+impl Paths {
+    ghost use Rattle.plum_host.specs.Paths.{path_of};
+
+    /// The path of an input.
+    pub fn path_of(&self, file: In) -> &str
+        ensures { result.now ≡ path_of self.now file }
+    {
+        let path = match file {
+            In::Setup => &self.setup,
+            In::Stations => &self.stations,
+            In::Targets => &self.targets,
+            In::Capture => &self.capture,
+            In::Journal => &self.journal,
+            In::Output => &self.output,
+        };
+        path.as_str()
+    }
 }

@@ -1,17 +1,17 @@
-use Rattle.std.proofs.Common.{◌≡◌, ◌≢◌, ◌≤◌, length}
-use Rattle.plum_host.specs.declared.host.In.{In}
-use Rattle.plum_host.specs.declared.host.To.{To}
+use Rattle.std.proofs.Common.{◌≡◌, length}
+use Rattle.plum_host.specs.Frames.{OnlyWrites}
 use Rattle.plum_host.proofs.Pieces.{HasPut}
 use Rattle.plum_host.proofs.put.put_all.Given as goal
 
 abbrev pub invariant-loop-rest : goal.invariant-loop-rest
-invariant-loop-rest g l = record {
-  put : HasPut (g.H.Host.held l.fn.host l.file) (g.H.Host.held l.host l.file) l.bytes l.rest;
-  other_output : (other : To) → other ≢ l.file → g.H.Host.held l.host other ≡ g.H.Host.held l.fn.host other;
-  inputs : (input : In) → g.H.Host.left l.host input ≡ g.H.Host.left l.fn.host input;
-  read_faults : g.H.Host.read_faults l.host ≡ g.H.Host.read_faults l.fn.host;
-  write_faults : g.H.Host.write_faults l.fn.host ≤ g.H.Host.write_faults l.host;
-}
+invariant-loop-rest g l =
+    let before = g.H.Host.told l.fn.host in
+    let now = g.H.Host.told l.host in
+    record {
+      put : HasPut (before.held l.file) (now.held l.file) l.bytes l.rest;
+      no_fault : now.write_faults ≡ before.write_faults;
+      frame : OnlyWrites l.file before now;
+    }
 
 abbrev pub decreases-loop-rest : goal.decreases-loop-rest
 decreases-loop-rest g l = length l.rest
