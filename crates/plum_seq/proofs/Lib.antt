@@ -1,3 +1,5 @@
 pub mod Pushes
+pub mod Greatest
+pub mod Picked
 pub mod Kept
-pub mod Judged
+pub mod Stations

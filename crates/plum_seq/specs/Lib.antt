@@ -1,2 +1,3 @@
 pub mod Keys
-pub mod Judged
+pub mod Verdicts
+pub mod Laws

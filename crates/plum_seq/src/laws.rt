@@ -1,26 +1,30 @@
-//! The law of keys.
+//! The laws of keys, each for whoever calls its function.
 
-ghost use Rattle.std.specs.Prelude.{◌≡◌, true, false, List, [], ◌∷◌, ◌++◌, Some};
-ghost use Rattle.plum_base.specs.declared.numbers.Key.{Key};
-ghost use Rattle.plum_base.specs.declared.wave.Sample.{Sample};
-ghost use Rattle.plum_seq.specs.Keys.{is_kept, kept, last_kept, is_fresh, marked, IsGreatestKey};
+ghost use Rattle.plum_seq.specs.Laws.{KeptJoins, RepeatLeaves, FreshJoins, FreshLeaves};
+ghost use Rattle.plum_seq.specs.Laws.{KeptInParts, KeptByStation, KeptAlone, FreshAlone};
+ghost use Rattle.plum_seq.specs.Laws.{KeptAfterKept, FreshAfterKept, KeptByOwn, FreshByOwn};
+ghost use Rattle.plum_seq.specs.Laws.{LastIsGreatest, GreatestIs, NoneGreatest, OneGreatest};
 
-/// What one more packet does to the kept ones of a station's packets, and that the kept ones alone say the same.
-pub fn kept_keys()
-    // A kept packet joins the kept ones, at their end; a repeat leaves them as they are.
-    ensures joins { (packets : List (Key × List Sample)) (p : Key × List Sample) → is_kept packets p.0 ≡ true
-        → kept (packets ++ p ∷ []) ≡ kept packets ++ p ∷ [] }
-    ensures repeat { (packets : List (Key × List Sample)) (p : Key × List Sample) → is_kept packets p.0 ≡ false
-        → kept (packets ++ p ∷ []) ≡ kept packets }
+/// What one more packet does to the kept ones, and what the kept ones alone say.
+pub fn kept_packets()
+    ensures joins { KeptJoins }
+    ensures leaves { RepeatLeaves }
+    ensures fresh_joins { FreshJoins }
+    ensures fresh_leaves { FreshLeaves }
+    ensures parts { KeptInParts }
+    ensures by_station { KeptByStation }
+    ensures alone { KeptAlone }
+    ensures fresh_alone { FreshAlone }
+    ensures after_kept { KeptAfterKept }
+    ensures fresh_after_kept { FreshAfterKept }
+    ensures by_own { KeptByOwn }
+    ensures fresh_by_own { FreshByOwn }
+{}
 
-    // A kept packet is fresh or not by the last kept key before it; the marks of the others stay.
-    ensures marks { (packets : List (Key × List Sample)) (p : Key × List Sample) → is_kept packets p.0 ≡ true
-        → marked (packets ++ p ∷ []) ≡ marked packets ++ (is_fresh (last_kept packets) p.0, p.1) ∷ [] }
-
-    // The last kept key is the greatest key of all packets.
-    ensures greatest { (packets : List (Key × List Sample)) (key : Key) → last_kept packets ≡ Some key → IsGreatestKey packets key }
-
-    // Of the kept packets alone all are kept, and a key is kept after them exactly where it is kept after all.
-    ensures alone { (packets : List (Key × List Sample)) → kept (kept packets) ≡ kept packets }
-    ensures same { (packets : List (Key × List Sample)) (key : Key) → is_kept (kept packets) key ≡ is_kept packets key }
+/// The greatest key of a station.
+pub fn greatest_keys()
+    ensures last { LastIsGreatest }
+    ensures is { GreatestIs }
+    ensures none { NoneGreatest }
+    ensures one { OneGreatest }
 {}

@@ -2,9 +2,8 @@
 
 ghost use Rattle.std.specs.Prelude.{◌≡◌, ◌≢◌, ◌↔◌, false, List, [], ◌∷◌, ◌++◌, Some};
 ghost use Rattle.plum_base.specs.declared.numbers.Key.{Key};
-ghost use Rattle.plum_base.specs.declared.wave.Sample.{Sample};
-ghost use Rattle.plum_seq.specs.Keys.{is_below, continues};
-ghost use Rattle.plum_seq.specs.Judged.{Knows, IsVerdict};
+ghost use Rattle.plum_seq.specs.Keys.{is_below, continues, greatest_key};
+ghost use Rattle.plum_seq.specs.Verdicts.{IsVerdict};
 
 use plum_base::Key;
 use std::marker::Model;
@@ -16,11 +15,11 @@ pub enum Verdict {
     Continues,
     /// Kept, and the first of a new run.
     Fresh,
-    /// Not greater than the kept key `last`.
+    /// Not greater than the kept key `last`, the greatest before it.
     Repeat { last: Key },
 }
 
-/// The keys of one station's packets so far. Contracts see the last kept one.
+/// The keys of one station's packets so far. Contracts see the greatest of them.
 #[derive(Drop)]
 pub struct Seq {
     /// The last kept one, which is the greatest.
@@ -39,21 +38,23 @@ impl Model for Seq {
 impl Seq {
     /// No packet came yet.
     pub fn new() -> Seq
-        ensures { Knows {W = List Sample} result [] }
+        ensures { result ≡ greatest_key [] }
     {
         Seq { last: None }
     }
 
     /// Judges the next key, and keeps it unless it is a repeat.
     pub fn judge(&mut self, key: Key) -> Verdict
-        // Over all packets so far.
-        ensures knows { (packets : List (Key × List Sample)) (samples : List Sample) → Knows self.old packets
-            → Knows self.new (packets ++ (key, samples) ∷ []) }
-        ensures verdict { (packets : List (Key × List Sample)) → Knows self.old packets → IsVerdict packets key result }
+        // Over all keys so far.
+        ensures knows { (keys : List Key) → self.old ≡ greatest_key keys
+            → self.new ≡ greatest_key (keys ++ key ∷ []) }
+        ensures verdict { (keys : List Key) → self.old ≡ greatest_key keys
+            → IsVerdict keys key result }
 
-        // Over the last kept key alone: a repeat is told exactly where the key is not greater, and changes nothing. Any
-        // other key becomes the last kept one.
-        ensures repeat { (last : Key) → (result ≡ Verdict.Repeat last) ↔ ((self.old ≡ Some last) × (is_below last key ≡ false)) }
+        // Over the greatest key alone: a repeat is told exactly where the key is not greater, and
+        // changes nothing. Any other key becomes the greatest.
+        ensures repeat { (last : Key) → (result ≡ Verdict.Repeat last)
+            ↔ ((self.old ≡ Some last) × (is_below last key ≡ false)) }
         ensures unchanged { (last : Key) → result ≡ Verdict.Repeat last → self.new ≡ self.old }
         ensures keeps { ((last : Key) → result ≢ Verdict.Repeat last) → self.new ≡ Some key }
     {
