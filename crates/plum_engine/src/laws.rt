@@ -1,20 +1,17 @@
-//! The law of values.
+//! The laws of runs and of values, each for whoever calls its function.
 
-ghost use Rattle.std.specs.Prelude.{◌≡◌, List, Option};
-ghost use Rattle.plum_base.specs.declared.numbers.Key.{Key};
-ghost use Rattle.plum_base.specs.declared.numbers.Tenths.{Tenths};
-ghost use Rattle.plum_base.specs.declared.setup.Gain.{Gain};
-ghost use Rattle.plum_base.specs.declared.wave.Sample.{Sample};
-ghost use Rattle.plum_base.specs.Levels.{Table, IsLevelTable};
-ghost use Rattle.plum_engine.specs.Engine.{IsValueOf, value_of};
+ghost use Rattle.plum_engine.specs.Run.{SinceGapIs, SinceNoGap, EachSplits};
+ghost use Rattle.plum_engine.specs.Engine.{OneValue, ValueIs};
 
 /// A station has one value after its packets, and a function of the packets gives it.
 pub fn one_value()
-    // What is a station's value after these packets is what the function gives.
-    ensures only { (gain : Gain) (table : Table) (packets : List (Key × List Sample)) (value : Option Tenths)
-        → IsValueOf gain table packets value → value ≡ value_of gain table packets }
+    ensures only { OneValue }
+    ensures is { ValueIs }
+{}
 
-    // At a lawful table, what the function gives is the station's value after these packets.
-    ensures is { (gain : Gain) (table : Table) (packets : List (Key × List Sample)) → IsLevelTable table
-        → IsValueOf gain table packets (value_of gain table packets) }
+/// What the packets since the last gap are.
+pub fn since_last_gap()
+    ensures gap { SinceGapIs }
+    ensures no_gap { SinceNoGap }
+    ensures either { EachSplits }
 {}

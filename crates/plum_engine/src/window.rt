@@ -10,20 +10,21 @@ use crate::signal::amplitude;
 use circular_buffer::HeapCircularBuffer;
 use plum_base::{Gain, Sample};
 
-/// How many samples a window holds: a minute at 100 per second.
-pub(crate) const WINDOW: usize = 6_000;
+/// How many samples a window has at most: a minute at 100 per second.
+pub const WINDOW: usize = 6_000;
 
 /// How many samples must reach a threshold: 0.3 seconds.
-const ENOUGH: usize = 30;
+pub const ENOUGH: usize = 30;
 
 /// Appends the squared amplitudes of the samples. The window keeps the last minute.
 pub(crate) fn append(window: &mut HeapCircularBuffer<u64>, gain: Gain, samples: &[Sample])
     requires gain { IsGain gain.g gain.h }
-    requires capacity { window.old.capacity ≡ 6000 }
-    requires short { length window.old.items ≤ 6000 }
-    ensures items { window.new.items ≡ last_minute (window.old.items ++ amplitudes_of gain samples.now) }
-    ensures capacity { window.new.capacity ≡ 6000 }
-    ensures short { length window.new.items ≤ 6000 }
+    requires capacity { window.old.capacity ≡ WINDOW }
+    requires short { length window.old.items ≤ WINDOW }
+    ensures items { window.new.items
+        ≡ last_minute (window.old.items ++ amplitudes_of gain samples.now) }
+    ensures capacity { window.new.capacity ≡ WINDOW }
+    ensures short { length window.new.items ≤ WINDOW }
 {
     for sample in samples {
         window.push_back(amplitude(gain, *sample));
@@ -44,7 +45,7 @@ fn count_reaching(amplitudes: &[u64], threshold: u64) -> usize
 }
 
 /// How many of the window are at least the threshold.
-fn reaching(window: &HeapCircularBuffer<u64>, threshold: u64) -> usize
+fn window_reaching(window: &HeapCircularBuffer<u64>, threshold: u64) -> usize
     ensures { result ≡ count_by (λ a. nat_le threshold a) window.now.items }
 {
     // The ring's own iterator asks before each item in which of the two slices it stands.
@@ -52,14 +53,16 @@ fn reaching(window: &HeapCircularBuffer<u64>, threshold: u64) -> usize
     count_reaching(front, threshold) + count_reaching(back, threshold)
 }
 
-/// The place of the greatest threshold that enough of the window reach: none where the window is too short.
+/// The position of the greatest threshold that enough of the window reach: none where the window is
+/// too short.
 pub(crate) fn level(thresholds: &[u64], window: &HeapCircularBuffer<u64>) -> Option<usize>
     requires starts { StartsAtZero thresholds.now }
     requires rises { RisesUpTo thresholds.now (length thresholds.now) }
-    requires short { length window.now.items ≤ 6000 }
-    ensures none { IfNone result (length window.now.items < 30) }
+    requires short { length window.now.items ≤ WINDOW }
+    ensures none { IfNone result (length window.now.items < ENOUGH) }
     ensures some { IfSome result (IsLevel thresholds.now window.now.items) }
 {
-    let reached = thresholds.partition_point(|threshold| reaching(window, *threshold) >= ENOUGH);
+    let reached = thresholds.partition_point(|threshold| window_reaching(window, *threshold)
+        >= ENOUGH);
     reached.checked_sub(1)
 }

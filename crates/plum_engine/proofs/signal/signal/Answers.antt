@@ -13,7 +13,8 @@ returns-clause-value c =
     let wide : FitsSigned w64 count = omega (arith, ints) in
     let factor : to_z w64 g ≡ pos g = to_z_pos w64 g (omega arith) in
     let product : FitsSigned w64 (count *ℤ pos g) = product_fits count g narrow (omega arith) in
-    let quotient : FitsSigned w64 (int_shr (count *ℤ pos g) c.args.gain.h) = quotient_fits _ c.args.gain.h product in
+    let quotient : FitsSigned w64 (int_shr (count *ℤ pos g) c.args.gain.h) =
+    quotient_fits _ c.args.gain.h product in
     let result : FitsSigned w64 c.clamp.result = omega (arith, ints) in
     let value = simp (factor, to_z-of_z) at c.clamp.ensures.value in
     to_z-of_z result ∙ value ∙ ap clamped (int_shr_is (count *ℤ pos g) c.args.gain.h)
