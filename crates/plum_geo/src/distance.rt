@@ -1,22 +1,23 @@
 //! Which places are near each other.
 
-ghost use Rattle.std.specs.Prelude.{◌≡◌, ◌↔◌, ◌≤◌, IsTrue, pos, nat_abs, ◌-ℤ◌, ◌≤ℤ◌};
+ghost use Rattle.std.specs.Prelude.{◌≡◌, ◌↔◌, ◌^◌, ◌≤◌, IsTrue, pos, nat_abs, ◌-ℤ◌, ◌≤ℤ◌};
+ghost use Rattle.plum_base.specs.Sites.{GRID_END};
 ghost use Rattle.plum_base.specs.Sites.{IsPlace};
 ghost use Rattle.plum_geo.specs.Prediction.{IsNear};
 
 use plum_base::Point;
 
 /// The radius of PLUM, in metres.
-const RADIUS: u64 = 30_000;
+pub const RADIUS: u64 = 30_000;
 
 /// How far two coordinates of the grid are apart, in metres.
 fn apart(a: i32, b: i32) -> u64
     requires a_low { pos 0 ≤ℤ a }
-    requires a_high { a ≤ℤ pos 4194303 }
+    requires a_high { a ≤ℤ GRID_END }
     requires b_low { pos 0 ≤ℤ b }
-    requires b_high { b ≤ℤ pos 4194303 }
+    requires b_high { b ≤ℤ GRID_END }
     ensures value { result ≡ nat_abs (a -ℤ b) }
-    ensures bound { result ≤ 4194303 }
+    ensures bound { result ≤ 2 ^ 31 }
 {
     u64::from(a.abs_diff(b))
 }
