@@ -1,5 +1,5 @@
 pub mod Pieces
-pub mod Readings
+pub mod Captures
 pub mod Spelling
 pub mod Fields
 pub mod FirstFault

@@ -1,5 +1,7 @@
--- The samples that the code reads are those of the body.
-use Rattle.std.proofs.Common.{◌≡◌, ℕ, zero, suc, ◌+◌, ◌-◌, ◌^◌, ◌<◌, ℤ, List, [], ◌∷◌, ◌++◌, length, take, drop, get_or, get_or-drop, Some, ap, sym, ◌∙◌, below_more, refl, to_z, of_z, arith}
+-- The samples that the code makes are those of the body.
+use Rattle.std.proofs.Common.{◌≡◌, ℕ, zero, suc, ◌+◌, ◌-◌, ◌^◌, ◌<◌, ℤ, List, [], ◌∷◌, ◌++◌, length}
+use Rattle.std.proofs.Common.{take, drop, get_or, get_or-drop, Some, ap, sym, ◌∙◌, below_more, refl}
+use Rattle.std.proofs.Common.{to_z, of_z, arith}
 use Rattle.std.specs.Prelude.{slice_get}
 use Rattle.std.specs.Int.{w32, cast_signed}
 use Rattle.std.proofs.lemmas.Int.{ints, of_z-to_z}
@@ -14,30 +16,42 @@ cast_signed-word : (n : ℕ) → n < 2 ^ 32 → cast_signed w32 n ≡ twos_compl
 cast_signed-word n h = grind (arith, ints)
 
 -- four bytes are a number of 32 bits
-word_fits : (place : ℕ) (body : List ℕ) → ((i : ℕ) → get_or body i 0 < 256) → number_at place 4 body < 2 ^ 32
-word_fits place body bytes = big_from-lt 0 4 (drop place body) (λ i. let e = get_or-drop place body i 0 in let h = bytes (place + i) in omega arith)
+word_fits : (offset : ℕ) (body : List ℕ) → ((i : ℕ) → get_or body i 0 < 256)
+    → number_at offset 4 body < 2 ^ 32
+word_fits offset body bytes = big_from-lt 0 4 (drop offset body)
+    (λ i. let e = get_or-drop offset body i 0 in let h = bytes (offset + i) in omega arith)
 
--- a signed number that was read is that of the body
-pub component : (place at : ℕ) (body : List ℕ) (z : ℤ) → ((i : ℕ) → get_or body i 0 < 256) → at ≡ place → z ≡ cast_signed w32 (big_number 4 (take (length body - at) (drop at body))) → to_z w32 (of_z w32 z) ≡ signed_at place body
-component place at body z bytes e read =
-    let n = number_at place 4 body in
-    let fits = word_fits place body bytes in
-    let told : z ≡ cast_signed w32 n = read ∙ ap (λ (k : ℕ). cast_signed w32 k) (number_of-rest at 4 body ∙ ap (λ (k : ℕ). number_at k 4 body) e) in
-    ap (λ (k : ℤ). to_z w32 (of_z w32 k)) told ∙ ap (λ (k : ℕ). to_z w32 k) (of_z-to_z w32 n fits) ∙ cast_signed-word n fits
+-- a signed number that the code makes is that of the body
+pub component : (offset at : ℕ) (body : List ℕ) (z : ℤ) → ((i : ℕ) → get_or body i 0 < 256)
+    → at ≡ offset → z ≡ cast_signed w32 (big_number 4 (take (length body - at) (drop at body)))
+    → to_z w32 (of_z w32 z) ≡ signed_at offset body
+component offset at body z bytes e made =
+    let n = number_at offset 4 body in
+    let fits = word_fits offset body bytes in
+    let same : big_number 4 (take (length body - at) (drop at body)) ≡ n =
+    number_of-rest at 4 body ∙ ap (λ (k : ℕ). number_at k 4 body) e in
+    let told : z ≡ cast_signed w32 n = made ∙ ap (λ (k : ℕ). cast_signed w32 k) same in
+    ap (λ (k : ℤ). to_z w32 (of_z w32 k)) told
+    ∙ ap (λ (k : ℕ). to_z w32 k) (of_z-to_z w32 n fits)
+    ∙ cast_signed-word n fits
 
 -- an element is where it was when a list grows behind it
-slice_get-append : {X : Type 0} (xs ys : List X) (k : ℕ) → k < length xs → slice_get (xs ++ ys) k ≡ slice_get xs k
+slice_get-append : {X : Type 0} (xs ys : List X) (k : ℕ) → k < length xs
+    → slice_get (xs ++ ys) k ≡ slice_get xs k
 slice_get-append [] ys k h = absurd (omega arith)
 slice_get-append (x ∷ xs) ys zero h = refl
 slice_get-append (x ∷ xs) ys (suc k) h = slice_get-append xs ys k (omega arith)
 
 -- the first element of the second list stands behind the first list
-slice_get-seam : {X : Type 0} (xs : List X) (y : X) (ys : List X) → slice_get (xs ++ y ∷ ys) (length xs) ≡ Some y
+slice_get-seam : {X : Type 0} (xs : List X) (y : X) (ys : List X)
+    → slice_get (xs ++ y ∷ ys) (length xs) ≡ Some y
 slice_get-seam [] y ys = refl
 slice_get-seam (x ∷ xs) y ys = slice_get-seam xs y ys
 
 -- one sample more
-pub more_samples : (body : List ℕ) (wave : List Sample) (i : ℕ) (next : Sample) → length wave ≡ i → ((k : ℕ) → k < i → slice_get wave k ≡ Some (sample_at body k)) → next ≡ sample_at body i → (k : ℕ) → k < i + 1 → slice_get (wave ++ next ∷ []) k ≡ Some (sample_at body k)
+pub more_samples : (body : List ℕ) (wave : List Sample) (i : ℕ) (next : Sample) → length wave ≡ i
+    → ((k : ℕ) → k < i → slice_get wave k ≡ Some (sample_at body k)) → next ≡ sample_at body i
+    → (k : ℕ) → k < i + 1 → slice_get (wave ++ next ∷ []) k ≡ Some (sample_at body k)
 more_samples body wave i next e each here =
     below_more (λ k. slice_get (wave ++ next ∷ []) k ≡ Some (sample_at body k)) i
     (λ k h. slice_get-append wave (next ∷ []) k (omega arith) ∙ each k h)

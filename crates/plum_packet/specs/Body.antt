@@ -1,5 +1,7 @@
--- The reading of a packet's body (the project's own format, version 1). All numbers stand with the highest byte first.
-use Rattle.std.specs.Prelude.{◌≡◌, ◌≢◌, ℕ, ◌+◌, ◌*◌, ◌<◌, ◌⊎◌, ℤ, List, [], ◌∷◌, length, take, drop, slice_get, Some, All}
+-- From a record's body to a packet (the project's own format, version 1). All numbers stand with
+-- the highest byte first.
+use Rattle.std.specs.Prelude.{◌≡◌, ◌≢◌, ℕ, ◌+◌, ◌*◌, ◌<◌, ◌⊎◌, ℤ, List, [], ◌∷◌, length, take, drop}
+use Rattle.std.specs.Prelude.{slice_get, Some, All}
 use Rattle.byteorder.specs.Endian.{big_number, twos_complement}
 use Rattle.plum_base.specs.declared.sites.StationSite.{StationSite}
 use Rattle.plum_base.specs.declared.wave.Sample.{Sample}
@@ -9,6 +11,18 @@ use Rattle.plum_base.specs.declared.packet.PacketFault.{PacketFault}
 use Rattle.plum_base.specs.declared.packet.PacketFault.TheVariants as faults
 use Rattle.plum_base.specs.Sites.{HasCode}
 use Rattle.plum_packet.specs.declared.body.Head.{Head}
+
+-- how many bytes stand before the samples
+abbrev pub HEADER : ℕ
+HEADER = 14
+
+-- how many bytes a sample has
+abbrev pub SAMPLE : ℕ
+SAMPLE = 12
+
+-- how many samples a packet has at most
+abbrev pub MOST_SAMPLES : ℕ
+MOST_SAMPLES = 200
 
 -- the number in `size` bytes from `offset` on
 abbrev pub number_at : ℕ → ℕ → List ℕ → ℕ
@@ -34,10 +48,13 @@ key_of body = record { boot = number_at 6 2 body; number = number_at 8 4 body }
 abbrev pub count_of : List ℕ → ℕ
 count_of body = number_at 12 2 body
 
--- the i-th sample, from 0: x, y and z of four bytes each, behind the 14 bytes of the header
+-- the i-th sample, from 0: x, y and z of four bytes each
 abbrev pub sample_at : List ℕ → ℕ → Sample
-sample_at body i =
-    record { x = signed_at (14 + 12 * i) body; y = signed_at (18 + 12 * i) body; z = signed_at (22 + 12 * i) body }
+sample_at body i = record {
+  x = signed_at (HEADER + SAMPLE * i) body;
+  y = signed_at (HEADER + SAMPLE * i + 4) body;
+  z = signed_at (HEADER + SAMPLE * i + 8) body;
+}
 
 -- These are the samples of the body.
 pub record AreSamples (body : List ℕ) (samples : List Sample) : Type 0 where
@@ -46,29 +63,32 @@ pub record AreSamples (body : List ℕ) (samples : List Sample) : Type 0 where
 
 -- what makes each fault apply, taken alone
 abbrev pub Applies : List StationSite → List ℕ → PacketFault → Type 0
-Applies stations body faults.Short = length body < 14
+Applies stations body faults.Short = length body < HEADER
 Applies stations body faults.Magic = take 2 body ≢ 80 ∷ 76 ∷ []
 Applies stations body (faults.Version v) = (v ≡ version_of body) × (v ≢ 1)
 Applies stations body (faults.Flags f) = (f ≡ flags_of body) × (f ≢ 0)
-Applies stations body (faults.Station code) = (code ≡ code_of body) × All (λ s. s.code ≢ code) stations
-Applies stations body (faults.Count n) = (n ≡ count_of body) × ((n ≡ 0) ⊎ (200 < n))
+Applies stations body (faults.Station code) =
+    (code ≡ code_of body) × All (λ s. s.code ≢ code) stations
+Applies stations body (faults.Count n) = (n ≡ count_of body) × ((n ≡ 0) ⊎ (MOST_SAMPLES < n))
 Applies stations body (faults.Length expected found) =
-    (expected ≡ 14 + 12 * count_of body) × (found ≡ length body) × (expected ≢ found)
+    (expected ≡ HEADER + SAMPLE * count_of body) × (found ≡ length body) × (expected ≢ found)
 
 -- the order of the faults: P1 to P7
-abbrev pub place_of : PacketFault → ℕ
-place_of faults.Short = 1
-place_of faults.Magic = 2
-place_of (faults.Version v) = 3
-place_of (faults.Flags f) = 4
-place_of (faults.Station code) = 5
-place_of (faults.Count n) = 6
-place_of (faults.Length expected found) = 7
+abbrev pub order_of : PacketFault → ℕ
+order_of faults.Short = 1
+order_of faults.Magic = 2
+order_of (faults.Version v) = 3
+order_of (faults.Flags f) = 4
+order_of (faults.Station code) = 5
+order_of (faults.Count n) = 6
+order_of (faults.Length expected found) = 7
 
 -- The fault applies, and none before it does.
-pub record IsFirstFault (stations : List StationSite) (body : List ℕ) (fault : PacketFault) : Type 0 where
+pub record IsFirstFault (stations : List StationSite) (body : List ℕ)
+    (fault : PacketFault) : Type 0 where
   pub applies : Applies stations body fault
-  pub first : (other : PacketFault) → place_of other < place_of fault → ¬ Applies stations body other
+  pub first : (other : PacketFault) → order_of other < order_of fault
+      → ¬ Applies stations body other
 
 abbrev pub HasNoFault : List StationSite → List ℕ → Type 0
 HasNoFault stations body = (fault : PacketFault) → ¬ Applies stations body fault

@@ -3,3 +3,4 @@ pub mod Record
 pub mod Records
 pub mod Body
 pub mod Segments
+pub mod Laws

@@ -1,6 +1,7 @@
--- Segments of a capture (the project's own rule). A mark ends a segment, and so does the body that fills it. The last
--- segment ends at the end of the capture and may be empty.
-use Rattle.std.specs.Prelude.{◌≡◌, ◌≢◌, ℕ, ◌+◌, ◌<◌, ◌==◌, not, if◌then◌else◌, List, [], ◌∷◌, ◌++◌, length, All, filter, filter_map, option_map, Result, Ok, Err}
+-- Segments of a capture (the project's own rule). A mark ends a segment, and so does the body that
+-- fills it. The last segment ends at the end of the capture and may be empty.
+use Rattle.std.specs.Prelude.{◌≡◌, ◌≢◌, ℕ, ◌+◌, ◌<◌, ◌==◌, not, if◌then◌else◌, List, [], ◌∷◌, ◌++◌}
+use Rattle.std.specs.Prelude.{length, All, filter, filter_map, option_map, Result, Ok, Err}
 use Rattle.std.specs.List.{AllZip, enumerate_from}
 use Rattle.std.specs.Result.{result_ok, result_err}
 use Rattle.std.specs.Str.{bytes_eq}
@@ -10,20 +11,20 @@ use Rattle.plum_base.specs.declared.packet.PacketFault.{PacketFault}
 use Rattle.plum_packet.specs.Capture.{mark_body}
 use Rattle.plum_packet.specs.Body.{IsPacket, IsFirstFault}
 
--- how many bodies a segment holds; marks are not counted
-abbrev pub segment_bodies : ℕ
-segment_bodies = 65536
+-- how many bodies fill a segment
+abbrev pub SEGMENT_BODIES : ℕ
+SEGMENT_BODIES = 65536
 
--- the segments of the records from number n on, where these bodies are in the open segment already: the bodies that are
--- not marks, each with the number of its record
+-- the segments of the records from number n on, where these bodies are in the open segment already:
+-- the bodies that are not marks, each with the number of its record
 abbrev pub segments_from : ℕ → List (ℕ × List ℕ) → List (List ℕ) → List (List (ℕ × List ℕ))
-segments_from n held [] = held ∷ []
-segments_from n held (body ∷ bodies) =
+segments_from n so_far [] = so_far ∷ []
+segments_from n so_far (body ∷ bodies) =
     if bytes_eq body mark_body
-    then held ∷ segments_from (n + 1) [] bodies
-    else if length held + 1 == segment_bodies
-    then (held ++ (n, body) ∷ []) ∷ segments_from (n + 1) [] bodies
-    else segments_from (n + 1) (held ++ (n, body) ∷ []) bodies
+    then so_far ∷ segments_from (n + 1) [] bodies
+    else if length so_far + 1 == SEGMENT_BODIES
+    then (so_far ++ (n, body) ∷ []) ∷ segments_from (n + 1) [] bodies
+    else segments_from (n + 1) (so_far ++ (n, body) ∷ []) bodies
 
 -- the segments of a capture of these bodies; records are numbered from 1, marks included
 abbrev pub segments_of : List (List ℕ) → List (List (ℕ × List ℕ))
@@ -37,32 +38,38 @@ unmarked bodies = filter (λ numbered. not (bytes_eq numbered.1 mark_body)) (enu
 abbrev pub HasNoMark : List (List ℕ) → Type 0
 HasNoMark bodies = All (λ body. body ≢ mark_body) bodies
 
--- This is a way to cut the records from a number on into segments: a segment goes on until a mark comes, or it is full,
--- or the capture ends.
+-- This is a way to cut the records from a number on into segments: a segment goes on until a mark
+-- comes, or it is full, or the capture ends.
 pub record CutsSegments (segments : ℕ → List (List ℕ) → List (List (ℕ × List ℕ))) : Type 0 where
   -- A mark ends the segment before it.
-  pub mark : (n : ℕ) (front later : List (List ℕ)) → HasNoMark front → length front < segment_bodies
-      → segments n (front ++ mark_body ∷ later) ≡ enumerate_from n front ∷ segments (n + length front + 1) later
+  pub mark : (n : ℕ) (front later : List (List ℕ))
+      → HasNoMark front → length front < SEGMENT_BODIES
+      → segments n (front ++ mark_body ∷ later)
+      ≡ enumerate_from n front ∷ segments (n + length front + 1) later
   -- Bodies that fill a segment end it.
-  pub full : (n : ℕ) (front later : List (List ℕ)) → HasNoMark front → length front ≡ segment_bodies
-      → segments n (front ++ later) ≡ enumerate_from n front ∷ segments (n + segment_bodies) later
+  pub full : (n : ℕ) (front later : List (List ℕ))
+      → HasNoMark front → length front ≡ SEGMENT_BODIES
+      → segments n (front ++ later) ≡ enumerate_from n front ∷ segments (n + SEGMENT_BODIES) later
   -- Fewer, with no mark after them, are the last segment.
-  pub last : (n : ℕ) (bodies : List (List ℕ)) → HasNoMark bodies → length bodies < segment_bodies
+  pub last : (n : ℕ) (bodies : List (List ℕ)) → HasNoMark bodies → length bodies < SEGMENT_BODIES
       → segments n bodies ≡ enumerate_from n bodies ∷ []
 
--- What a body reads as: a packet, or its first fault.
-abbrev pub ReadsAs : List StationSite → List ℕ → Result Packet PacketFault → Type 0
-ReadsAs stations body (Ok packet) = IsPacket stations body packet
-ReadsAs stations body (Err fault) = IsFirstFault stations body fault
+-- What a body decodes as: a packet, or its first fault.
+abbrev pub DecodesAs : List StationSite → List ℕ → Result Packet PacketFault → Type 0
+DecodesAs stations body (Ok packet) = IsPacket stations body packet
+DecodesAs stations body (Err fault) = IsFirstFault stations body fault
 
--- This is the segment with its bodies read, each beside the number of its record.
-abbrev pub IsReadSegment : List StationSite → List (ℕ × List ℕ) → List (ℕ × Result Packet PacketFault) → Type 0
-IsReadSegment stations segment read = AllZip (λ body answer. (answer.0 ≡ body.0) × ReadsAs stations body.1 answer.1) segment read
+-- This is the segment with its bodies decoded, each beside the number of its record.
+abbrev pub IsDecodedSegment : List StationSite → List (ℕ × List ℕ)
+    → List (ℕ × Result Packet PacketFault) → Type 0
+IsDecodedSegment stations segment results = AllZip
+    (λ body decoded. (decoded.0 ≡ body.0) × DecodesAs stations body.1 decoded.1) segment results
 
 -- the packets of a segment, in file order
 abbrev pub packets_in : List (ℕ × Result Packet PacketFault) → List Packet
-packets_in read = filter_map (λ answer. result_ok answer.1) read
+packets_in results = filter_map (λ decoded. result_ok decoded.1) results
 
 -- the refused bodies of a segment: the numbers of their records, and their faults
 abbrev pub refused_in : List (ℕ × Result Packet PacketFault) → List (ℕ × PacketFault)
-refused_in read = filter_map (λ answer. option_map (λ fault. (answer.0, fault)) (result_err answer.1)) read
+refused_in results =
+    filter_map (λ decoded. option_map (λ fault. (decoded.0, fault)) (result_err decoded.1)) results

@@ -1,22 +1,23 @@
-//! The reading of a packet's body.
+//! From a record's body to a packet.
 
-ghost use Rattle.std.specs.Prelude.{◌≡◌, ◌↔◌, ◌+◌, ◌*◌, ◌^◌, ◌<◌, ◌≤◌, length, IfOk, Err};
+ghost use Rattle.std.specs.Prelude.{◌≡◌, ◌↔◌, ◌+◌, ◌*◌, ◌^◌, ◌<◌, ◌≤◌, length, IfOk};
 ghost use Rattle.plum_base.specs.declared.packet.PacketFault.{PacketFault};
 ghost use Rattle.plum_packet.specs.declared.body.DecodeFault.TheVariants as decoding;
-ghost use Rattle.plum_packet.specs.Body.{count_of, sample_at, AreSamples, IsFirstFault, IsHead, IsPacket};
+ghost use Rattle.plum_packet.specs.Body.{count_of, sample_at, AreSamples, IsFirstFault, IsHead};
+ghost use Rattle.plum_packet.specs.Body.{IsPacket};
 
 use byteorder::{BigEndian, ByteOrder};
 use plum_base::{Key, NoMemory, Packet, PacketFault, Sample, Sites, StationNo, Wave};
 use std::alloc::Global;
 
 /// The bytes before the samples.
-const HEADER: usize = 14;
+pub const HEADER: usize = 14;
 
 /// The bytes of one sample.
-const SAMPLE: usize = 12;
+pub const SAMPLE: usize = 12;
 
 /// The samples of the longest packet.
-const MOST_SAMPLES: u16 = 200;
+pub const MOST_SAMPLES: u16 = 200;
 
 /// What the header of a packet tells.
 #[derive(Clone, Copy, Debug, PartialEq, Eq)]
@@ -54,7 +55,8 @@ impl From<NoMemory> for DecodeFault {
 pub fn inspect(bytes: &[u8], sites: &Sites) -> Result<Head, PacketFault>
     requires { length bytes.now < 2 ^ 32 }
     ensures head { IfOk result (IsHead sites.now.stations bytes.now) }
-    ensures fault { (fault : PacketFault) → (result ≡ Err fault) ↔ IsFirstFault sites.now.stations bytes.now fault }
+    ensures fault { (fault : PacketFault)
+        → (result ≡ Err fault) ↔ IsFirstFault sites.now.stations bytes.now fault }
 {
     if bytes.len() < HEADER {
         return Err(PacketFault::Short);
@@ -96,25 +98,25 @@ pub fn inspect(bytes: &[u8], sites: &Sites) -> Result<Head, PacketFault>
 
 /// The i-th sample of a body, from 0.
 fn sample(bytes: &[u8], i: u16) -> Sample
-    requires { 26 + 12 * i ≤ length bytes.now }
+    requires { HEADER + SAMPLE * (i + 1) ≤ length bytes.now }
     ensures { result ≡ sample_at bytes.now i }
 {
-    let place = HEADER + SAMPLE * usize::from(i);
+    let start = HEADER + SAMPLE * usize::from(i);
     Sample {
-        x: BigEndian::read_i32(&bytes[place..]),
-        y: BigEndian::read_i32(&bytes[place + 4..]),
-        z: BigEndian::read_i32(&bytes[place + 8..]),
+        x: BigEndian::read_i32(&bytes[start..]),
+        y: BigEndian::read_i32(&bytes[start + 4..]),
+        z: BigEndian::read_i32(&bytes[start + 8..]),
     }
 }
 
 /// As many samples of a body as its header tells.
 fn wave_of(alloc: Global, bytes: &[u8], count: u16) -> Result<Wave, NoMemory>
     requires counted { count ≡ count_of bytes.now }
-    requires few { count ≤ 200 }
-    requires whole { length bytes.now ≡ 14 + 12 * count }
+    requires few { count ≤ MOST_SAMPLES }
+    requires whole { length bytes.now ≡ HEADER + SAMPLE * count }
     ensures { IfOk result (AreSamples bytes.now) }
 {
-    let mut wave = Wave::new(alloc)?;
+    let mut wave = Wave::with_capacity(alloc, usize::from(count))?;
     for i in 0..count {
         wave.push(sample(bytes, i))?;
     }
@@ -125,7 +127,8 @@ fn wave_of(alloc: Global, bytes: &[u8], count: u16) -> Result<Wave, NoMemory>
 pub fn decode(alloc: Global, bytes: &[u8], sites: &Sites) -> Result<Packet, DecodeFault>
     requires { length bytes.now < 2 ^ 32 }
     ensures packet { IfOk result (IsPacket sites.now.stations bytes.now) }
-    ensures fault { (fault : PacketFault) → (result ≡ Err (DecodeFault.Packet fault)) ↔ IsFirstFault sites.now.stations bytes.now fault }
+    ensures fault { (fault : PacketFault) → (result ≡ Err (DecodeFault.Packet fault))
+        ↔ IsFirstFault sites.now.stations bytes.now fault }
 {
     let head = inspect(bytes, sites)?;
     let wave = wave_of(alloc, bytes, head.count)?;

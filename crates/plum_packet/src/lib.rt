@@ -1,17 +1,16 @@
-//! From the bytes of a capture to records, and from a record's body to a packet.
+//! From the bytes of a capture to records, and from a record's body to a packet. Owns both formats,
+//! and how records make segments. Promises that a reader of records loses no byte between reads and
+//! tells each fault, and that a body decodes to its packet or its first fault. Must not know what a
+//! packet's samples mean, nor which packets are kept.
 #![tactic(auto)]
 
 mod body;
-#[cfg(test)]
-mod body_tests;
 mod capture;
 mod record;
 mod records;
 mod segments;
-#[cfg(test)]
-mod tests;
 
 pub use body::{DecodeFault, Head, decode, inspect};
-pub use capture::capture_has_one_reading;
-pub use records::{Body, Phase, Records, RecordsFault};
-pub use segments::segments_hold_each_body;
+pub use capture::bytes_are_one_capture;
+pub use records::{Body, MOST_RECORDS, Progress, Records, RecordsFault};
+pub use segments::{SEGMENT_BODIES, segments_hold_each_body};

@@ -1,12 +1,13 @@
 //! A reader of records.
 
-ghost use Rattle.std.specs.Prelude.{◌≡◌, ◌≢◌, ◌↔◌, ℕ, ◌+◌, ◌<◌, ◌≤◌, List, [], ◌∷◌, ◌++◌, length, IsTrue, Some, None, Ok, Err, IfOk, OnOk, IfErr, IfSome, IfNone, OnErr, IsErrOf};
-ghost use Rattle.plum_host.specs.declared.host.In.{In};
+ghost use Rattle.std.specs.Prelude.{◌≡◌, ◌↔◌, ℕ, ◌+◌, ◌≤◌, List, [], length, IsTrue, Some, None};
+ghost use Rattle.std.specs.Prelude.{IfOk, OnOk, IfErr, IfSome, IfNone, OnErr, IsErrOf};
 ghost use Rattle.plum_host.specs.declared.host.In.TheVariants.{Capture};
-ghost use Rattle.plum_host.specs.declared.host.To.{To};
 ghost use Rattle.plum_host.specs.Faults.{HasRisen};
-ghost use Rattle.plum_packet.specs.declared.records.Phase.TheVariants.{Reading, Ended, Over};
-ghost use Rattle.plum_packet.specs.Capture.{mark_body, HasRecord, IsCapture};
+ghost use Rattle.plum_host.specs.Frames.{OnlyReads};
+ghost use Rattle.plum_packet.specs.Capture.{LONGEST_BODY};
+ghost use Rattle.plum_packet.specs.declared.records.Progress.TheVariants.{Open, Ended, Over};
+ghost use Rattle.plum_packet.specs.Capture.{mark_body, HasRecord};
 ghost use Rattle.plum_packet.specs.Record.{body_in, IsRecord};
 
 use crate::record::Record;
@@ -24,7 +25,8 @@ pub struct Body {
     pub mark: bool,
 }
 
-/// Why no record was given: a read failed, or a whole record stands behind as many as the reader gives.
+/// Why no record was given: a read failed, or a whole record stands behind as many as the reader
+/// gives.
 #[derive(Clone, Copy, Debug, PartialEq, Eq)]
 pub enum RecordsFault {
     Read,
@@ -33,11 +35,14 @@ pub enum RecordsFault {
 
 /// Whether a reader may find more records, has met the end of the input, or a record too many.
 #[derive(Clone, Copy, Debug, PartialEq, Eq)]
-pub enum Phase {
-    Reading,
+pub enum Progress {
+    Open,
     Ended,
     Over,
 }
+
+/// The records of the longest capture.
+pub const MOST_RECORDS: u32 = 4_294_967_294;
 
 /// The body of a mark.
 const MARK: &[u8] = b"MK";
@@ -47,7 +52,7 @@ const MARK: &[u8] = b"MK";
 pub struct Records {
     limit: u32,
     given: u32,
-    phase: Phase,
+    progress: Progress,
     /// The last record given, empty before the first.
     last: Record,
     /// What was taken of the next record.
@@ -57,27 +62,36 @@ pub struct Records {
 impl Model for Records {
     ghost use Rattle.std.specs.Prelude.{◌≤◌};
     ghost use Rattle.plum_packet.specs.Record.{body_in};
-    ghost use Rattle.plum_packet.specs.Records.{Place};
+    ghost use Rattle.plum_packet.specs.Records.{RecordsView};
 
-    ghost Value = { Place };
+    ghost Value = { RecordsView };
 
-    ghost view = { λ r. record { limit = r.limit; given = r.given; last = body_in r.last; ahead = r.next; phase = r.phase } };
+    ghost view = { λ r. record {
+      limit = r.limit;
+      given = r.given;
+      last = body_in r.last;
+      ahead = r.next;
+      progress = r.progress;
+    } };
 
     ghost invariant = { λ r. r.given ≤ r.limit };
 }
 
 impl Records {
-    ghost use Rattle.plum_packet.specs.Records.{StandsAt, GivesNoMore, tail_of};
+    ghost use Rattle.plum_packet.specs.Records.{StandsAt, GivesRecord, GivesNoMore, GoesOn, Ends};
+    ghost use Rattle.plum_packet.specs.Records.{tail_of};
 
     /// A reader that gives at most `limit` records. It takes all its memory here.
     pub fn new(alloc: Global, limit: u32) -> Result<Records, NoMemory>
-        ensures place { IfOk result (λ r. r ≡ record { limit = limit; given = 0; last = []; ahead = []; phase = Reading }) }
-        ensures start { (capture : List ℕ) → IfOk result (λ r. StandsAt capture [] r (Some capture)) }
+        ensures view { IfOk result (λ r. r
+            ≡ record { limit = limit; given = 0; last = []; ahead = []; progress = Open }) }
+        ensures start { (capture : List ℕ)
+            → IfOk result (λ r. StandsAt capture [] r (Some capture)) }
     {
         Ok(Records {
             limit,
             given: 0,
-            phase: Phase::Reading,
+            progress: Progress::Open,
             last: Record::new(alloc)?,
             next: Record::new(alloc)?,
         })
@@ -85,55 +99,65 @@ impl Records {
 
     /// Gives the next record, or none at the end of the input, and from then on.
     ///
-    /// After a read that failed a later call goes on at that place.
+    /// After a read that failed a later call goes on where that one stopped.
     pub fn next<H: Host>(&mut self, host: &mut H) -> Result<Option<Body>, RecordsFault>
         // The next record of the capture, whose body is then the last one.
         ensures number { IfOk result (λ found. IfSome found (λ body.
-            (body.number ≡ self.old.given + 1) × (self.new.given ≡ body.number) × (body.number ≤ self.old.limit))) }
-        ensures mark { IfOk result (λ found. IfSome found (λ body. IsTrue body.mark ↔ (self.new.last ≡ mark_body))) }
-        ensures some { IfOk result (λ found. IfSome found (λ _. (capture : List ℕ) (bodies : List (List ℕ))
-            → StandsAt capture bodies self.old (H.left host.old Capture)
-            → StandsAt capture (bodies ++ self.new.last ∷ []) self.new (H.left host.new Capture))) }
-        ensures reading { IfOk result (λ found. IfSome found (λ _. self.new.phase ≡ Reading)) }
+            (body.number ≡ self.old.given + 1) × (self.new.given ≡ body.number)
+            × (body.number ≤ self.old.limit))) }
+        ensures mark { IfOk result (λ found. IfSome found (λ body.
+            IsTrue body.mark ↔ (self.new.last ≡ mark_body))) }
+        ensures some { IfOk result (λ found. IfSome found (λ _.
+            GivesRecord self.old ((H.told host.old).left Capture)
+            self.new ((H.told host.new).left Capture))) }
+        ensures still_open { IfOk result (λ found. IfSome found (λ _. self.new.progress ≡ Open)) }
 
         // None exactly at the end of the input: what is ahead is the tail.
-        ensures none { IfOk result (λ found. IfNone found (self.old.phase ≡ Reading → (capture : List ℕ) (bodies : List (List ℕ))
-            → StandsAt capture bodies self.old (H.left host.old Capture)
-            → IsCapture capture bodies self.new.ahead × (H.left host.new Capture ≡ Some []))) }
-        ensures end { IfOk result (λ found. IfNone found ((self.new.phase ≡ Ended) × GivesNoMore self.old self.new)) }
+        ensures none { IfOk result (λ found. IfNone found (self.old.progress ≡ Open
+            → Ends self.old ((H.told host.old).left Capture)
+            self.new ((H.told host.new).left Capture))) }
+        ensures end { IfOk result (λ found. IfNone found
+            ((self.new.progress ≡ Ended) × GivesNoMore self.old self.new)) }
 
-        // A read that failed loses nothing, and comes before the next record is whole.
-        ensures read { IsErrOf result RecordsFault.Read → HasRisen (H.read_faults host.old) (H.read_faults host.new) }
+        // A read that failed is one fault more. It loses nothing, and comes before the next record
+        // is whole.
+        ensures read { IsErrOf result RecordsFault.Read
+            → HasRisen (H.told host.old).read_faults (H.told host.new).read_faults }
         ensures short { IsErrOf result RecordsFault.Read → ¬ HasRecord self.new.ahead }
-        ensures goes_on { IsErrOf result RecordsFault.Read → (self.new.phase ≡ Reading) × ((capture : List ℕ) (bodies : List (List ℕ))
-            → StandsAt capture bodies self.old (H.left host.old Capture)
-            → StandsAt capture bodies self.new (H.left host.new Capture)) }
+        ensures goes_on { IsErrOf result RecordsFault.Read → (self.new.progress ≡ Open)
+            × GoesOn self.old ((H.told host.old).left Capture)
+            self.new ((H.told host.new).left Capture) }
 
         // A whole record behind as many as the reader gives: it stays ahead.
-        ensures limit { IsErrOf result RecordsFault.Limit → self.old.phase ≡ Reading
+        ensures limit { IsErrOf result RecordsFault.Limit → self.old.progress ≡ Open
             → (self.old.given ≡ self.old.limit) × HasRecord self.new.ahead
-            × ((capture : List ℕ) (bodies : List (List ℕ)) → StandsAt capture bodies self.old (H.left host.old Capture)
-            → StandsAt capture bodies self.new (H.left host.new Capture)) }
-        ensures over { IsErrOf result RecordsFault.Limit → self.new.phase ≡ Over }
+            × GoesOn self.old ((H.told host.old).left Capture)
+            self.new ((H.told host.new).left Capture) }
+        ensures over { IsErrOf result RecordsFault.Limit → self.new.progress ≡ Over }
         ensures err { OnErr result (GivesNoMore self.old self.new) }
 
-        // The end, and the limit, are answered for good.
-        ensures ended { self.old.phase ≡ Ended → (result ≡ Ok None) × (self.new ≡ self.old) × (host.new ≡ host.old) }
-        ensures still_over { self.old.phase ≡ Over → (result ≡ Err RecordsFault.Limit) × (self.new ≡ self.old) × (host.new ≡ host.old) }
+        // The end, and the limit, stay.
+        ensures ended { self.old.progress ≡ Ended
+            → (result ≡ Ok None) × (self.new ≡ self.old) × (host.new ≡ host.old) }
+        ensures still_over { self.old.progress ≡ Over
+            → (result ≡ Err RecordsFault.Limit) × (self.new ≡ self.old) × (host.new ≡ host.old) }
+
+        // Nothing else is a fault.
+        ensures no_fault { OnOk result
+            ((H.told host.new).read_faults ≡ (H.told host.old).read_faults) }
+        ensures limit_no_fault { IsErrOf result RecordsFault.Limit
+            → (H.told host.new).read_faults ≡ (H.told host.old).read_faults }
 
         ensures same_limit { self.new.limit ≡ self.old.limit }
-        ensures other_inputs { (other : In) → other ≢ Capture → H.left host.new other ≡ H.left host.old other }
-        ensures outputs { (to : To) → H.held host.new to ≡ H.held host.old to }
-        ensures read_faults { H.read_faults host.old ≤ H.read_faults host.new }
-        ensures write_faults { H.write_faults host.new ≡ H.write_faults host.old }
+        ensures frame { OnlyReads Capture (H.told host.old) (H.told host.new) }
     {
-        match self.phase {
-            Phase::Ended => Ok(None),
-            Phase::Over => Err(RecordsFault::Limit),
-            Phase::Reading => match self.next.complete(host) {
+        match self.progress {
+            Progress::Ended => Ok(None),
+            Progress::Over => Err(RecordsFault::Limit),
+            Progress::Open => match self.next.complete(host) {
                 Ok(true) => Ok(Some(self.give()?)),
                 Ok(false) => {
-                    self.phase = Phase::Ended;
+                    self.progress = Progress::Ended;
                     Ok(None)
                 }
                 Err(Failed) => Err(RecordsFault::Read),
@@ -146,13 +170,18 @@ impl Records {
         requires { IsRecord self.old.ahead }
         ensures number { IfOk result (λ body. body.number ≡ self.old.given + 1) }
         ensures mark { IfOk result (λ body. IsTrue body.mark ↔ (self.new.last ≡ mark_body)) }
-        ensures given { OnOk result (self.new ≡ record self.old { given = self.old.given + 1; last = body_in self.old.ahead; ahead = [] }) }
+        ensures given { OnOk result (self.new ≡ record self.old {
+          given = self.old.given + 1;
+          last = body_in self.old.ahead;
+          ahead = [];
+        }) }
         ensures within { OnOk result (self.new.given ≤ self.new.limit) }
-        ensures limit { IfErr result (λ fault. (fault ≡ RecordsFault.Limit) × (self.old.given ≡ self.old.limit)
-            × (self.new ≡ record self.old { phase = Over })) }
+        ensures limit { IfErr result (λ fault. (fault ≡ RecordsFault.Limit)
+            × (self.old.given ≡ self.old.limit)
+            × (self.new ≡ record self.old { progress = Over })) }
     {
         if self.given == self.limit {
-            self.phase = Phase::Over;
+            self.progress = Progress::Over;
             return Err(RecordsFault::Limit);
         }
         self.given += 1;
@@ -167,7 +196,7 @@ impl Records {
     /// The body of the last record given, empty before the first.
     pub fn bytes(&self) -> &[u8]
         ensures value { result.now ≡ self.now.last }
-        ensures bound { length result.now < 65536 }
+        ensures bound { length result.now ≤ LONGEST_BODY }
     {
         self.last.body()
     }
@@ -176,9 +205,9 @@ impl Records {
     pub fn tail(&self) -> u32
         ensures { result ≡ tail_of self.now }
     {
-        match self.phase {
-            Phase::Ended => self.next.taken() as u32,
-            Phase::Reading | Phase::Over => 0,
+        match self.progress {
+            Progress::Ended => self.next.taken() as u32,
+            Progress::Open | Progress::Over => 0,
         }
     }
 }

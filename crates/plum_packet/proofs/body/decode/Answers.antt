@@ -12,10 +12,12 @@ returns-in_err-head-clause-fault c =
 
 pub wave_of-requires-clause-few : goal.wave_of-requires-clause-few
 wave_of-requires-clause-few c =
-    let few = few_samples c.args.sites.now.stations c.args.bytes.now c.in_ok-head.ensures.head.lawful in
-    omega (arith, few, c.in_ok-head.ensures.head.count)
+    let head = c.in_ok-head.ensures.head in
+    let few = few_samples c.args.sites.now.stations c.args.bytes.now head.lawful in
+    omega (arith, few, head.count)
 
 pub wave_of-requires-clause-whole : goal.wave_of-requires-clause-whole
 wave_of-requires-clause-whole c =
-    let whole = whole_length c.args.sites.now.stations c.args.bytes.now c.in_ok-head.ensures.head.lawful in
-    omega (arith, whole, c.in_ok-head.ensures.head.count)
+    let head = c.in_ok-head.ensures.head in
+    let whole = whole_length c.args.sites.now.stations c.args.bytes.now head.lawful in
+    omega (arith, whole, head.count)

@@ -16,4 +16,5 @@ pub returns-clause-cuts : goal.returns-clause-cuts
 returns-clause-cuts c = cuts
 
 pub returns-clause-only : goal.returns-clause-only
-returns-clause-only c = λ segments is bodies. only segments is 1 1 [] bodies (All-nil _) (omega arith) refl
+returns-clause-only c =
+    λ segments is bodies. only segments is 1 1 [] bodies (All-nil _) (omega arith) refl

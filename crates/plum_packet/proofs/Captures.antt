@@ -1,0 +1,166 @@
+-- All bytes are a capture, in one way.
+use Rattle.std.proofs.Common.{◌≡◌, ℕ, zero, suc, ◌<◌, ◌≤◌, inl, inr, List, [], ◌∷◌, ◌++◌, length}
+use Rattle.std.proofs.Common.{get_or, take, drop, refl, sym, ap, ◌∙◌, subst, arith, append_assoc}
+use Rattle.std.proofs.Common.{length-drop, take-append-drop}
+use Rattle.std.proofs.lemmas.Bool.{cases_lt}
+use Rattle.std.proofs.lemmas.List.{length-take-le, get_or-take}
+use Rattle.std.specs.List.{flat_map}
+use Rattle.byteorder.specs.Endian.{big_number}
+use Rattle.byteorder.specs.Numbers.{big_from-take}
+use Rattle.plum_packet.specs.Capture.{record_of, IsBody, IsCapture, AreBytes}
+use Rattle.plum_packet.specs.Record.{record_end, body_in, IsRecord}
+use Rattle.plum_packet.specs.Laws.{EachIsCapture, OneCapture, TailIsShort, RowGoesOn, RowsGoOn}
+use Rattle.plum_packet.proofs.Spelling.{no_record, whole_record, same_record}
+
+-- each of the bytes is below 256, and so is 0 past them
+byte : (bytes : List ℕ) (i : ℕ) → AreBytes bytes → get_or bytes i 0 < 256
+byte [] i are = omega arith
+byte (b ∷ bytes) zero are = are.0
+byte (b ∷ bytes) (suc i) are = byte bytes i are.1
+
+-- what is left of bytes are bytes
+AreBytes-drop : (n : ℕ) (bytes : List ℕ) → AreBytes bytes → AreBytes (drop n bytes)
+AreBytes-drop zero bytes are = are
+AreBytes-drop (suc n) [] are = tt
+AreBytes-drop (suc n) (b ∷ bytes) are = AreBytes-drop n bytes are.1
+
+-- so is what stands behind a front of them
+AreBytes-append : (front rest : List ℕ) → AreBytes (front ++ rest) → AreBytes rest
+AreBytes-append [] rest are = are
+AreBytes-append (b ∷ front) rest are = AreBytes-append front rest are.1
+
+-- the front as long as its length says is a record
+first_record : (bytes : List ℕ) → AreBytes bytes → record_end bytes ≤ length bytes
+    → IsRecord (take (record_end bytes) bytes)
+first_record bytes are fits =
+    let end = record_end bytes in
+    let front = take end bytes in
+    let number : big_number 2 front ≡ big_number 2 bytes =
+    big_from-take 0 2 end bytes (omega arith) in
+    let long : length front ≡ end = length-take-le end bytes fits in
+    let first : get_or front 0 0 < 256 =
+    rw (get_or-take end bytes 0 0 (omega arith)) (byte bytes 0 are) in
+    let second : get_or front 1 0 < 256 =
+    rw (get_or-take end bytes 1 0 (omega arith)) (byte bytes 1 are) in
+    whole_record front first second (omega (arith, long, number))
+
+-- the record at the start, and what follows
+split : (bytes : List ℕ) → IsRecord (take (record_end bytes) bytes)
+    → bytes ≡ record_of (body_in (take (record_end bytes) bytes)) ++ drop (record_end bytes) bytes
+split bytes whole =
+    sym (take-append-drop (record_end bytes) bytes)
+    ∙ ap (λ (l : List ℕ). l ++ drop (record_end bytes) bytes) whole.spelled
+
+-- These bytes are a capture.
+abbrev HasCapture : List ℕ → Type 0
+HasCapture bytes = (bodies : List (List ℕ)) × (rest : List ℕ) × IsCapture bytes bodies rest
+
+-- one more record ahead
+before : (bytes more body : List ℕ) → bytes ≡ record_of body ++ more → IsBody body
+    → HasCapture more → HasCapture bytes
+before bytes more body is fits (bodies, rest, capture) =
+    let spelled = capture.spelled in
+    let joined = sym (append_assoc (record_of body) (flat_map record_of bodies) rest) in (
+      body ∷ bodies,
+      rest,
+      record {
+        spelled = is ∙ ap (λ (l : List ℕ). record_of body ++ l) spelled ∙ joined;
+        lengths = (fits, capture.lengths);
+        no_more = capture.no_more;
+      },
+    )
+
+-- bytes that start with no record are a tail
+tail_alone : (bytes : List ℕ) → length bytes < record_end bytes → HasCapture bytes
+tail_alone bytes short =
+    ([], bytes, record { spelled = refl; lengths = tt; no_more = no_record bytes short })
+
+-- at most n bytes are a capture
+capture_within : (n : ℕ) (bytes : List ℕ) → length bytes ≤ n → AreBytes bytes → HasCapture bytes
+capture_within zero bytes bound are = tail_alone bytes (omega arith)
+capture_within (suc n) bytes bound are = elim (cases_lt (length bytes) (record_end bytes)) [
+  | inl short ↦ tail_alone bytes short
+  | inr fits ↦
+      let end = record_end bytes in
+      let whole = first_record bytes are fits in
+      let fewer : length (drop end bytes) ≤ n = omega (arith, length-drop end bytes) in
+      let later = capture_within n (drop end bytes) fewer (AreBytes-drop end bytes are) in
+      before bytes (drop end bytes) (body_in (take end bytes)) (split bytes whole) whole.fits later
+]
+
+-- all bytes are
+pub exist : EachIsCapture
+exist bytes are = capture_within (length bytes) bytes (omega arith) are
+
+-- where there is no record all is the tail, so that no record stands at its start
+none_or_one : (bytes rest body : List ℕ) (bodies : List (List ℕ)) (other : List ℕ)
+    → IsCapture bytes [] rest → IsCapture bytes (body ∷ bodies) other → ⊥
+none_or_one bytes rest body bodies other none one =
+    let more = flat_map record_of bodies ++ other in
+    let is : rest ≡ record_of body ++ more =
+    sym none.spelled ∙ one.spelled
+    ∙ append_assoc (record_of body) (flat_map record_of bodies) other in
+    none.no_more (body, more, one.lengths.0, is)
+
+-- a capture without its first record
+behind : (bytes body : List ℕ) (bodies : List (List ℕ)) (rest : List ℕ)
+    → IsCapture bytes (body ∷ bodies) rest
+    → IsCapture (flat_map record_of bodies ++ rest) bodies rest
+behind bytes body bodies rest capture =
+    record { spelled = refl; lengths = capture.lengths.1; no_more = capture.no_more }
+
+-- two captures of the same bytes are one
+pub only : OneCapture
+only bytes [] [] rest other left right = (refl, sym left.spelled ∙ right.spelled)
+only bytes [] (b ∷ others) rest other left right =
+    absurd (none_or_one bytes rest b others other left right)
+only bytes (a ∷ some) [] rest other left right =
+    absurd (none_or_one bytes other a some rest right left)
+only bytes (a ∷ some) (b ∷ others) rest other left right =
+    let more = flat_map record_of some ++ rest in
+    let joined : record_of a ++ more ≡ record_of b ++ (flat_map record_of others ++ other) =
+    sym (append_assoc (record_of a) (flat_map record_of some) rest)
+    ∙ sym left.spelled ∙ right.spelled
+    ∙ append_assoc (record_of b) (flat_map record_of others) other in
+    let peeled = same_record a b _ _ left.lengths.0 right.lengths.0 joined in
+    let second : IsCapture more others other =
+    subst (λ l. IsCapture l others other) (sym peeled.1) (behind bytes b others other right) in
+    let again = only more some others rest other (behind bytes a some rest left) second in
+    let same : a ∷ some ≡ b ∷ others = cc (peeled.0, again.0) in
+    (same, again.1)
+
+-- one more record ahead of both rows
+RowGoesOn-before : (a b : List ℕ) (some others : List (List ℕ)) (more rest : List ℕ) → a ≡ b
+    → RowGoesOn some more others rest → RowGoesOn (a ∷ some) more (b ∷ others) rest
+RowGoesOn-before a b some others more rest same on =
+    let joined : b ∷ others ≡ a ∷ (some ++ on.0) = cc (same, on.1) in
+    (on.0, joined, on.2)
+
+-- of two rows one goes on where the other ends
+pub fronts : RowsGoOn
+fronts [] others more rest left right e = inl (others, refl, e)
+fronts (a ∷ some) [] more rest left right e = inr (a ∷ some, refl, sym e)
+fronts (a ∷ some) (b ∷ others) more rest left right e =
+    let first = flat_map record_of some ++ more in
+    let joined : record_of a ++ first ≡ record_of b ++ (flat_map record_of others ++ rest) =
+    sym (append_assoc (record_of a) (flat_map record_of some) more)
+    ∙ e ∙ append_assoc (record_of b) (flat_map record_of others) rest in
+    let peeled = same_record a b _ _ left.0 right.0 joined in
+    elim (fronts some others more rest left.1 right.1 peeled.1) [
+      | inl on ↦ inl (RowGoesOn-before a b some others more rest peeled.0 on)
+      | inr on ↦ inr (RowGoesOn-before b a others some rest more (sym peeled.0) on)
+    ]
+
+-- a tail as long as the longest record would start with one
+pub tail : TailIsShort
+tail bytes bodies rest are capture =
+    let bytes_of_tail : AreBytes rest =
+    AreBytes-append (flat_map record_of bodies) rest (subst AreBytes capture.spelled are) in
+    elim (cases_lt (length rest) (record_end rest)) [
+      | inl short ↦ omega (arith, byte rest 0 bytes_of_tail, byte rest 1 bytes_of_tail)
+      | inr fits ↦
+          let end = record_end rest in
+          let whole = first_record rest bytes_of_tail fits in
+          absurd (capture.no_more
+          (body_in (take end rest), drop end rest, whole.fits, split rest whole))
+    ]
