@@ -1,31 +1,40 @@
 -- What a station shows after one more entry.
-use Rattle.std.proofs.Common.{◌≡◌, Bool, true, false, cond, List, [], ◌∷◌, ◌++◌, filter, Option, Some, None, refl, ◌∙◌, ap, append-nil}
+use Rattle.std.proofs.Common.{◌≡◌, ℕ, ◌<◌, Bool, true, false, cond, List, [], ◌∷◌, ◌++◌, filter}
+use Rattle.std.proofs.Common.{Option, None, ◌∙◌, ap, append-nil}
+use Rattle.std.proofs.lemmas.Bool.{lt-ltb}
 use Rattle.std.proofs.lemmas.List.Elements.{filter-append}
 use Rattle.std.specs.List.{last_or}
 use Rattle.std.specs.Option.{option_and_then}
+use Rattle.std.specs.Prelude.{if◌then◌else◌}
 use Rattle.plum_base.specs.declared.entry.Entry.{Entry}
 use Rattle.plum_base.specs.declared.numbers.Tenths.{Tenths}
+use Rattle.plum_seq.proofs.Pushes.{last_or-push}
+use Rattle.plum_geo.specs.Prediction.{shown_entries, shown}
 
 -- the value of the last of these entries
 abbrev pub last_value : List Entry → Option Tenths
 last_value es = option_and_then (λ e. e.value) (last_or None es)
 
-last_or-push : {X : Type 0} (o : Option X) (xs : List X) (x : X) → last_or o (xs ++ x ∷ []) ≡ Some x
-last_or-push o [] x = refl
-last_or-push o (y ∷ ys) x = last_or-push (Some y) ys x
+-- A listed station shows the value of its last entry.
+pub shown-listed : (stations : ℕ) (history : List Entry) (s : ℕ) → s < stations
+    → shown stations history s ≡ last_value (shown_entries history s)
+shown-listed stations history s listed =
+    ap (λ b. if b then last_value (shown_entries history s) else None) (lt-ltb s stations listed)
 
 module _ (passes : Entry → Bool) (es : List Entry) (e : Entry) where
   -- the entries that pass, after one more entry
-  after : filter passes (es ++ e ∷ []) ≡ filter passes es ++ cond (passes e) (e ∷ []) []
-  after = filter-append passes es (e ∷ [])
+  after : (b : Bool) → passes e ≡ b
+      → filter passes (es ++ e ∷ []) ≡ filter passes es ++ cond b (e ∷ []) []
+  after b is =
+      filter-append passes es (e ∷ []) ∙ ap (λ b. filter passes es ++ cond b (e ∷ []) []) is
 
   -- one that passes
   pub last_value-push : passes e ≡ true → last_value (filter passes (es ++ e ∷ [])) ≡ e.value
   last_value-push is =
-      let push : filter passes (es ++ e ∷ []) ≡ filter passes es ++ e ∷ [] = after ∙ ap (λ b. filter passes es ++ cond b (e ∷ []) []) is in
-      ap last_value push ∙ ap (option_and_then (λ f. f.value)) (last_or-push None (filter passes es) e)
+      ap last_value (after true is)
+      ∙ ap (option_and_then (λ f. f.value)) (last_or-push None (filter passes es) e)
 
   -- one that does not
-  pub last_value-push_other : passes e ≡ false → last_value (filter passes (es ++ e ∷ [])) ≡ last_value (filter passes es)
-  last_value-push_other is =
-      ap last_value (after ∙ ap (λ b. filter passes es ++ cond b (e ∷ []) []) is ∙ append-nil (filter passes es))
+  pub last_value-push_other : passes e ≡ false
+      → last_value (filter passes (es ++ e ∷ [])) ≡ last_value (filter passes es)
+  last_value-push_other is = ap last_value (after false is ∙ append-nil (filter passes es))

@@ -1,5 +1,6 @@
--- Transcripts: what a run said, and when that is right.
-use Rattle.std.specs.Prelude.{◌≡◌, ℕ, ◌+◌, ◌-◌, ◌%◌, ◌≤◌, ◌==◌, if◌then◌else◌, List, [], ◌∷◌, ◌++◌, length, map, filter, take, slice_get, All, Option, Some}
+-- Transcripts: what a replay said, and when that is right.
+use Rattle.std.specs.Prelude.{◌≡◌, ℕ, ◌+◌, ◌-◌, ◌≤◌, ◌==◌, if◌then◌else◌, List, [], ◌∷◌, ◌++◌}
+use Rattle.std.specs.Prelude.{length, map, filter, take, slice_get, All, Option, Some}
 use Rattle.std.specs.List.{flat_map, AllZip}
 use Rattle.std.specs.Str.{bytes_eq}
 use Rattle.plum_base.specs.declared.answers.Reading.{Reading}
@@ -9,9 +10,11 @@ use Rattle.plum_base.specs.declared.packet.Packet.{Packet}
 use Rattle.plum_base.specs.declared.setup.Setup.{Setup}
 use Rattle.plum_base.specs.declared.sites.StationSite.{StationSite}
 use Rattle.plum_base.specs.declared.sites.TargetSite.{TargetSite}
-use Rattle.plum_base.specs.Sites.{Lists, areas_of}
-use Rattle.plum_core.specs.History.{packet_of, IsValidHistory, kept_packets_after}
-use Rattle.plum_geo.specs.Prediction.{IsPrediction}
+use Rattle.plum_base.specs.Sites.{SitesView, areas_of}
+use Rattle.plum_base.specs.Lane.{lane_of}
+use Rattle.plum_seq.specs.Keys.{kept_after}
+use Rattle.plum_geo.specs.Prediction.{IsPredictionOver}
+use Rattle.plum_core.specs.History.{packet_of, IsValidHistory}
 
 -- the journal, cut into the parts of the segments, and for each mark a reading for each area
 pub record Transcript : Type 0 where
@@ -37,30 +40,35 @@ pub record IsReadingAt (t : Transcript) (m a : ℕ) (reading : Reading) : Type 0
 abbrev pub kept_in_segments_after : List Packet → List (List Packet) → List (List Packet)
 kept_in_segments_after earlier [] = []
 kept_in_segments_after earlier (segment ∷ segments) =
-    kept_packets_after earlier segment ∷ kept_in_segments_after (earlier ++ segment) segments
+    kept_after earlier segment ∷ kept_in_segments_after (earlier ++ segment) segments
 
--- the kept packets of each segment; each packet is compared with all earlier ones of its station, in whatever segment
+-- the kept packets of each segment; each packet is compared with all earlier ones of its station,
+-- in whatever segment
 abbrev pub kept_in_segments : List (List Packet) → List (List Packet)
 kept_in_segments segments = kept_in_segments_after [] segments
 
--- the packets of a lane; a station's lane is its position in the list of stations modulo the number of lanes
+-- the packets of a lane, where there are so many lanes
 abbrev pub of_lane : ℕ → ℕ → List Packet → List Packet
-of_lane lanes lane packets = filter (λ p. p.station.0 % lanes == lane) packets
+of_lane lanes lane packets = filter (λ p. lane_of lanes p.station.0 == lane) packets
 
 -- The part holds exactly these packets, each once: those of each lane, in file order.
 abbrev pub HoldsByLane : ℕ → List Entry → List Packet → Type 0
-HoldsByLane lanes part packets = (lane : ℕ) → of_lane lanes lane (map packet_of part) ≡ of_lane lanes lane packets
+HoldsByLane lanes part packets =
+    (lane : ℕ) → of_lane lanes lane (map packet_of part) ≡ of_lane lanes lane packets
 
 -- the targets of an area, in file order
 abbrev pub targets_of : List ℕ → List TargetSite → List TargetSite
 targets_of area targets = filter (λ t. bytes_eq t.area area) targets
 
 -- The answers are the predictions at these targets, one for one.
-abbrev pub ArePredictions : List StationSite → List Entry → List TargetSite → List (Option Tenths) → Type 0
-ArePredictions stations history targets answers = AllZip (IsPrediction stations history) targets answers
+abbrev pub ArePredictions : List StationSite → List Entry → List TargetSite → List (Option Tenths)
+    → Type 0
+ArePredictions stations history targets answers =
+    AllZip (IsPredictionOver stations history) targets answers
 
 -- The transcript is right for these segments, given as packets, where so many marks have readings.
-pub record IsLegalOver (setup : Setup) (sites : Lists) (segments : List (List Packet)) (read : ℕ) (t : Transcript) : Type 0 where
+pub record IsLegalOver (setup : Setup) (sites : SitesView)
+    (segments : List (List Packet)) (read : ℕ) (t : Transcript) : Type 0 where
   -- Each station's value is the plain function of its packets since its last gap.
   pub valid : IsValidHistory setup (length sites.stations) (journal_of t)
   -- Each part holds exactly the kept packets of its segment.
@@ -68,24 +76,28 @@ pub record IsLegalOver (setup : Setup) (sites : Lists) (segments : List (List Pa
   -- Each of these marks has a reading for each area.
   pub marks : length t.readings ≡ read
   pub areas : All (λ readings. length readings ≡ length (areas_of sites.targets)) t.readings
-  -- The front of a reading holds every packet kept before its mark, and none that is kept after the next mark.
+  -- The front of a reading holds every packet kept before its mark, and none that is kept after the
+  -- next mark.
   pub bounds : (m a : ℕ) (reading : Reading) → IsReadingAt t m a reading
-      → (length (entries_up_to m t) ≤ reading.front) × (reading.front ≤ length (entries_up_to (m + 1) t))
+      → (length (entries_up_to m t) ≤ reading.front)
+      × (reading.front ≤ length (entries_up_to (m + 1) t))
   -- An area's fronts never fall.
-  pub rising : (m a : ℕ) (earlier later : Reading) → IsReadingAt t m a earlier → IsReadingAt t (m + 1) a later
+  pub rising : (m a : ℕ) (earlier later : Reading)
+      → IsReadingAt t m a earlier → IsReadingAt t (m + 1) a later
       → earlier.front ≤ later.front
   -- Its answers are the predictions over that front of the journal, for the targets of its area.
   pub answers : (m a : ℕ) (reading : Reading) (area : List ℕ) → IsReadingAt t m a reading
       → slice_get (areas_of sites.targets) a ≡ Some area
-      → ArePredictions sites.stations (take reading.front (journal_of t)) (targets_of area sites.targets) reading.answers
+      → ArePredictions sites.stations (take reading.front (journal_of t))
+      (targets_of area sites.targets) reading.answers
 
 -- The transcript is right for the segments of a capture: it has readings at each mark.
-abbrev pub IsLegal : Setup → Lists → List (List Packet) → Transcript → Type 0
+abbrev pub IsLegal : Setup → SitesView → List (List Packet) → Transcript → Type 0
 IsLegal setup sites segments t = IsLegalOver setup sites segments (length segments) t
 
--- The transcript is right as far as the k-th segment. A mark has readings once the segment after it has its part, and the
--- last one with its own.
-abbrev pub IsLegalUpTo : ℕ → Setup → Lists → List (List Packet) → Transcript → Type 0
+-- The transcript is right as far as the k-th segment. A mark has readings once the segment after it
+-- has its part, and the last one with its own.
+abbrev pub IsLegalUpTo : ℕ → Setup → SitesView → List (List Packet) → Transcript → Type 0
 IsLegalUpTo k setup sites segments t =
     (k ≤ length segments)
     × IsLegalOver setup sites (take k segments) (if k == length segments then k else k - 1) t

@@ -7,7 +7,8 @@ use crate::predict::predict;
 use plum_base::{Answers, Entry, Name, NoMemory, Reading, Sites};
 use std::alloc::Global;
 
-/// The reading of an area over a history: its length, and the prediction at each target of the area, in file order.
+/// The reading of an area over a history: its length, and the prediction at each target of the
+/// area, in file order.
 pub fn read_area(
     alloc: Global,
     sites: &Sites,
@@ -15,7 +16,8 @@ pub fn read_area(
     history: &[Entry],
 ) -> Result<Reading, NoMemory>
     ensures front { IfOk result (λ reading. reading.front ≡ length history.now) }
-    ensures answers { IfOk result (λ reading. ArePredictions sites.now.stations history.now (targets_of area.now sites.now.targets) reading.answers) }
+    ensures answers { IfOk result (λ reading. ArePredictions sites.now.stations history.now
+        (targets_of area.now sites.now.targets) reading.answers) }
 {
     let (stations, targets) = (sites.stations(), sites.targets());
     let mut answers = Answers::new(alloc)?;

@@ -1,4 +1,8 @@
-//! Histories, what makes a run legal, and the machine over events: the core of a centre, without a thread.
+//! Histories, what makes a transcript legal, and the machine over events: the core of a centre,
+//! without a thread.
+//!
+//! It promises a valid history of exactly the kept packets, the predictions over a history, the
+//! replies of the machine, and its laws. It knows nothing of bytes, of hosts, nor of lines.
 #![tactic(auto)]
 
 mod area;
@@ -7,18 +11,16 @@ mod history;
 mod laws;
 mod machine;
 mod network;
+mod playing;
 mod predict;
-mod run;
 mod station;
-#[cfg(test)]
-mod tests;
 
 pub use area::read_area;
 pub use event::{Event, Reply};
 pub use history::history_of;
 pub use laws::{
-    fronts_of_histories, kept_packets_by_station, legal_up_to_the_end, machine_keeps_facts,
-    machine_replies_in_one_way, readings_are_predictions, sending_keeps_validity,
-    station_shows_its_value, taking_keeps_backlog,
+    histories, legal_transcripts, machine_keeps_facts, machine_replies_in_one_way,
+    readings_are_predictions, sending_keeps_validity, station_shows_its_value,
+    taking_keeps_backlog,
 };
-pub use run::play;
+pub use playing::play;

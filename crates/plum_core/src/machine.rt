@@ -1,6 +1,6 @@
 //! The machine at work: each event is one step of it.
 
-ghost use Rattle.std.specs.Prelude.{◌≡◌, ◌<◌, ◌≤◌, length, vec_len, OnOk, IfOk};
+ghost use Rattle.std.specs.Prelude.{◌≡◌, ◌<◌, ◌≤◌, length, vec_len, OnOk, OnErr, IfOk};
 ghost use Rattle.plum_engine.specs.Engine.{pass_through};
 
 use crate::area::read_area;
@@ -31,10 +31,11 @@ pub struct Machine {
 
 impl Machine {
     ghost use Rattle.plum_base.specs.declared.setup.Setup.{Setup};
-    ghost use Rattle.plum_base.specs.Sites.{Lists, areas_of};
+    ghost use Rattle.plum_base.specs.Sites.{SitesView, areas_of};
     ghost use Rattle.plum_core.specs.declared.event.Event.TheVariants as events;
-    ghost use Rattle.plum_core.specs.Machine.{State, start, step, IsReply, NamesExist};
-    ghost use Rattle.plum_core.specs.Following.{IsSized, sizes_of, Follows};
+    ghost use Rattle.plum_core.specs.Machine.{start, NamesExist};
+    ghost use Rattle.plum_core.specs.Following.{IsSized, sizes_of, Follows, TakesStep};
+    ghost use Rattle.plum_core.specs.Following.{StaysAsItWas, Replies};
 
     /// Nothing happened yet.
     pub fn new(alloc: Global, sites: &Sites, setup: &Setup) -> Result<Machine, NoMemory>
@@ -65,10 +66,9 @@ impl Machine {
     fn take(&mut self, packet: Packet) -> Reply
         requires listed { packet.station.0 < length self.old.network.stations.items }
         ensures sizes { sizes_of self.new ≡ sizes_of self.old }
-        ensures follows { (setup : Setup) (state : State) → Follows setup self.old state
-            → Follows setup self.new (step setup state (events.Take packet)) }
-        ensures reply { (setup : Setup) (sites : Lists) (state : State) → Follows setup self.old state
-            → IsReply setup sites state (events.Take packet) result }
+        ensures follows { (setup : Setup) → TakesStep setup (events.Take packet) self.old self.new }
+        ensures reply { (setup : Setup) (sites : SitesView)
+            → Replies setup sites (events.Take packet) self.old result }
     {
         // For the contract: a kept packet has one entry.
         one_value();
@@ -85,50 +85,54 @@ impl Machine {
         }
     }
 
-    /// The lane offers its waiting entry to the queue.
+    /// The lane offers its waiting entry to the queue. Where memory is refused, the entry waits on.
     fn offer(&mut self, setup: &Setup, lane: LaneNo) -> Result<Reply, NoMemory>
         requires lane { lane.0 < length self.old.waiting.items }
         ensures sizes { sizes_of self.new ≡ sizes_of self.old }
-        ensures follows { OnOk result ((state : State) → Follows setup.now self.old state
-            → Follows setup.now self.new (step setup.now state (events.Offer lane))) }
-        ensures reply { (sites : Lists) → IfOk result (λ reply. (state : State) → Follows setup.now self.old state
-            → IsReply setup.now sites state (events.Offer lane) reply) }
+        ensures follows { OnOk result (TakesStep setup.now (events.Offer lane) self.old self.new) }
+        ensures reply { (sites : SitesView)
+            → IfOk result (λ reply. Replies setup.now sites (events.Offer lane) self.old reply) }
+        ensures err { OnErr result (StaysAsItWas setup.now self.old self.new) }
     {
-        let place = lane.0 as usize;
-        let Some(entry) = self.waiting[place].take() else {
+        let position = lane.0 as usize;
+        let Some(entry) = self.waiting[position].take() else {
             return Ok(Reply::Idle);
         };
         if self.queue.len() == setup.queue as usize {
-            self.waiting[place] = Some(entry);
+            self.waiting[position] = Some(entry);
             return Ok(Reply::Offered(Offered::Busy));
         }
-        self.queue.push_back(entry)?;
+        if let Err(refused) = self.queue.push_back(entry) {
+            self.waiting[position] = Some(refused.value);
+            return Err(NoMemory);
+        }
         Ok(Reply::Offered(Offered::Sent))
     }
 
-    /// The gatherer takes the first entry of the queue.
+    /// The gatherer takes the first entry of the queue. Where memory is refused, it takes none.
     fn pop(&mut self) -> Result<Reply, NoMemory>
         ensures sizes { sizes_of self.new ≡ sizes_of self.old }
-        ensures follows { (setup : Setup) → OnOk result ((state : State) → Follows setup self.old state
-            → Follows setup self.new (step setup state events.Pop)) }
-        ensures reply { (setup : Setup) (sites : Lists) → IfOk result (λ reply. (state : State) → Follows setup self.old state
-            → IsReply setup sites state events.Pop reply) }
+        ensures follows { (setup : Setup)
+            → OnOk result (TakesStep setup events.Pop self.old self.new) }
+        ensures reply { (setup : Setup) (sites : SitesView)
+            → IfOk result (λ reply. Replies setup sites events.Pop self.old reply) }
+        ensures err { (setup : Setup) → OnErr result (StaysAsItWas setup self.old self.new) }
     {
+        self.gathered.reserve(1)?;
         let Some(entry) = self.queue.pop_front() else {
             return Ok(Reply::Empty);
         };
         let key = entry.key;
-        self.gathered.push(entry)?;
+        self.gathered.push_reserved(entry);
         Ok(Reply::Popped(key))
     }
 
     /// The next gathered entry is appended to what is to be published.
     fn append(&mut self) -> Reply
         ensures sizes { sizes_of self.new ≡ sizes_of self.old }
-        ensures follows { (setup : Setup) (state : State) → Follows setup self.old state
-            → Follows setup self.new (step setup state events.Append) }
-        ensures reply { (setup : Setup) (sites : Lists) (state : State) → Follows setup self.old state
-            → IsReply setup sites state events.Append result }
+        ensures follows { (setup : Setup) → TakesStep setup events.Append self.old self.new }
+        ensures reply { (setup : Setup) (sites : SitesView)
+            → Replies setup sites events.Append self.old result }
     {
         if self.appended == self.gathered.len() {
             return Reply::Nothing;
@@ -140,24 +144,25 @@ impl Machine {
     /// All that was appended is published.
     fn publish(&mut self) -> Reply
         ensures sizes { sizes_of self.new ≡ sizes_of self.old }
-        ensures follows { (setup : Setup) (state : State) → Follows setup self.old state
-            → Follows setup self.new (step setup state events.Publish) }
-        ensures reply { (setup : Setup) (sites : Lists) (state : State) → Follows setup self.old state
-            → IsReply setup sites state events.Publish result }
+        ensures follows { (setup : Setup) → TakesStep setup events.Publish self.old self.new }
+        ensures reply { (setup : Setup) (sites : SitesView)
+            → Replies setup sites events.Publish self.old result }
     {
         self.published = self.appended;
         Reply::Published(self.published as u64)
     }
 
-    /// The session of the area reads the published board.
+    /// The session of the area reads the published board. Where memory is refused, it has seen no
+    /// more than before.
     fn read(&mut self, alloc: Global, sites: &Sites, area: AreaNo) -> Result<Reply, NoMemory>
         requires area { area.0 < length self.old.seen.items }
         requires areas { length self.old.seen.items ≡ length (areas_of sites.now.targets) }
         ensures sizes { sizes_of self.new ≡ sizes_of self.old }
-        ensures follows { (setup : Setup) → OnOk result ((state : State) → Follows setup self.old state
-            → Follows setup self.new (step setup state (events.Read area))) }
-        ensures reply { (setup : Setup) → IfOk result (λ reply. (state : State) → Follows setup self.old state
-            → IsReply setup sites.now state (events.Read area) reply) }
+        ensures follows { (setup : Setup)
+            → OnOk result (TakesStep setup (events.Read area) self.old self.new) }
+        ensures reply { (setup : Setup)
+            → IfOk result (λ reply. Replies setup sites.now (events.Read area) self.old reply) }
+        ensures err { (setup : Setup) → OnErr result (StaysAsItWas setup self.old self.new) }
     {
         let name = sites.area_name(area);
         let front = &self.gathered[..self.published];
@@ -170,21 +175,22 @@ impl Machine {
     fn learn(&mut self, area: AreaNo, count: u64) -> Reply
         requires area { area.0 < length self.old.seen.items }
         ensures sizes { sizes_of self.new ≡ sizes_of self.old }
-        ensures follows { (setup : Setup) (state : State) → Follows setup self.old state
-            → Follows setup self.new (step setup state (events.Learn area count)) }
-        ensures reply { (setup : Setup) (sites : Lists) (state : State) → Follows setup self.old state
-            → IsReply setup sites state (events.Learn area count) result }
+        ensures follows { (setup : Setup)
+            → TakesStep setup (events.Learn area count) self.old self.new }
+        ensures reply { (setup : Setup) (sites : SitesView)
+            → Replies setup sites (events.Learn area count) self.old result }
     {
         if count > self.published as u64 {
             return Reply::Nothing;
         }
-        let place = area.0 as usize;
-        let seen = count.max(self.seen[place]);
-        self.seen[place] = seen;
+        let position = area.0 as usize;
+        let seen = count.max(self.seen[position]);
+        self.seen[position] = seen;
         Reply::Learned(seen)
     }
 
-    /// One step, and the reply to its event.
+    /// One step, and the reply to its event. A step that is refused memory leaves the machine as it
+    /// was.
     pub fn step(
         &mut self,
         alloc: Global,
@@ -195,10 +201,9 @@ impl Machine {
         requires exist { NamesExist setup.now sites.now event }
         requires sized { IsSized setup.now sites.now self.old }
         ensures sized { IsSized setup.now sites.now self.new }
-        ensures follows { OnOk result ((state : State) → Follows setup.now self.old state
-            → Follows setup.now self.new (step setup.now state event)) }
-        ensures reply { IfOk result (λ reply. (state : State) → Follows setup.now self.old state
-            → IsReply setup.now sites.now state event reply) }
+        ensures follows { OnOk result (TakesStep setup.now event self.old self.new) }
+        ensures reply { IfOk result (λ reply. Replies setup.now sites.now event self.old reply) }
+        ensures err { OnErr result (StaysAsItWas setup.now self.old self.new) }
     {
         match event {
             Event::Take(packet) => Ok(self.take(packet)),

@@ -1,12 +1,12 @@
 //! All stations of a centre at work.
 
-ghost use Rattle.std.specs.Prelude.{◌≡◌, ℕ, ◌%◌, ◌<◌, ◌≤◌, List, [], length, IfOk};
-ghost use Rattle.plum_base.specs.declared.numbers.Key.{Key};
-ghost use Rattle.plum_base.specs.declared.wave.Sample.{Sample};
+ghost use Rattle.std.specs.Prelude.{◌≡◌, ℕ, ◌<◌, ◌≤◌, List, [], length, IfOk};
+ghost use Rattle.plum_base.specs.declared.packet.Packet.{Packet};
+ghost use Rattle.plum_base.specs.Lane.{lane_of};
 ghost use Rattle.plum_engine.specs.Engine.{pass_through};
 
 use crate::station::{Station, Taken};
-use plum_base::{LaneNo, NoMemory, Packet, Setup, StationNo};
+use plum_base::{LaneNo, NoMemory, Packet, Setup, StationNo, lane_of};
 use std::alloc::Global;
 
 /// The stations, by their numbers.
@@ -39,10 +39,10 @@ impl Network {
 
     /// The lane of a station.
     pub fn lane_of(&self, station: StationNo) -> LaneNo
-        ensures value { result.0 ≡ station.0 % self.now.lanes }
+        ensures value { result.0 ≡ lane_of self.now.lanes station.0 }
         ensures bound { result.0 < self.now.lanes }
     {
-        LaneNo(station.0 % self.lanes)
+        lane_of(self.lanes, station)
     }
 
     /// Gives a packet to its station.
@@ -50,10 +50,11 @@ impl Network {
         requires listed { packet.station.0 < length self.old.stations.items }
         ensures lanes { self.new.lanes ≡ self.old.lanes }
         ensures count { length self.new.stations.items ≡ length self.old.stations.items }
-        ensures stand { (setup : Setup) (given : ℕ → List (Key × List Sample)) → StandFor self.old setup given
+        ensures stand { (setup : Setup) (given : ℕ → List Packet) → StandFor self.old setup given
             → StandFor self.new setup (given_more given packet) }
-        ensures gives { (setup : Setup) (given : ℕ → List (Key × List Sample)) → StandFor self.old setup given
-            → Gives setup (given packet.station.0) (record { 0 = packet.station.0 % setup.lanes }) packet result }
+        ensures gives { (setup : Setup) (given : ℕ → List Packet) → StandFor self.old setup given
+            → Gives setup (given packet.station.0)
+            (record { 0 = lane_of setup.lanes packet.station.0 }) packet result }
     {
         let lane = self.lane_of(packet.station);
         self.stations[packet.station.0 as usize].take(lane, packet)

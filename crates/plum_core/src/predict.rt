@@ -1,18 +1,22 @@
 //! Predictions by PLUM, by a scan of all stations.
 
-ghost use Rattle.std.specs.Prelude.{ℕ, List, ◌≡◌, ◌↔◌, ◌≤◌, ◌&&◌, ◌==◌, length, All, IsTrue, Some, None, IfSome, IfNone, IsSomeAnd, ◌⊎◌, pos, nat_abs, ◌-ℤ◌, ◌+ℤ◌, ◌≤ℤ◌};
-ghost use Rattle.plum_base.specs.declared.entry.Entry.{Entry};
+ghost use Rattle.std.specs.Prelude.{ℕ, ◌≡◌, ◌<◌, ◌≤◌, ◌&&◌, ◌==◌, ◌⊎◌, length, All, IsTrue, Some};
+ghost use Rattle.std.specs.Prelude.{None, IfSome, IfNone, IsSomeAnd, ◌-ℤ◌, ◌+ℤ◌, ◌≤ℤ◌};
 ghost use Rattle.plum_base.specs.declared.numbers.Tenths.{Tenths};
+ghost use Rattle.plum_base.specs.Sites.{MOST_STATIONS};
 ghost use Rattle.plum_base.specs.Sites.{IsPlace};
 ghost use Rattle.plum_base.specs.Levels.{IsFactor};
-ghost use Rattle.plum_geo.specs.Prediction.{none_or_on_scale, shown, corrected, IsOnScale, IsNear, IsPrediction};
+ghost use Rattle.plum_geo.specs.Prediction.{none_or_on_scale, shown, corrected, IsOnScale, IsNear};
+ghost use Rattle.plum_geo.specs.Prediction.{IsBest, IsPredictionOver};
+ghost use Rattle.plum_core.specs.Corrected.{IsOnCorrectedScale};
 
-use plum_base::{Entry, StationNo, StationSite, TargetSite, Tenths};
+use plum_base::{Entry, Point, StationNo, StationSite, TargetSite, Tenths};
 use plum_geo::{near, near_stations_are_those_near};
 
-/// What a station shows after these entries.
+/// What a station that is listed shows after these entries.
 fn shown(history: &[Entry], station: StationNo) -> Option<Tenths>
-    ensures value { result ≡ shown history.now station.0 }
+    ensures value { (stations : ℕ) → station.0 < stations
+        → result ≡ shown stations history.now station.0 }
     ensures scale { IfSome result IsOnScale }
 {
     let mut value = None;
@@ -26,7 +30,8 @@ fn shown(history: &[Entry], station: StationNo) -> Option<Tenths>
 
 /// Whether the entry is one of the station's, with a value on the scale.
 fn is_shown_by(entry: &Entry, station: StationNo) -> bool
-    ensures value { result ≡ ((entry.now.station.0 == station.0) && none_or_on_scale entry.now.value) }
+    ensures value { result
+        ≡ ((entry.now.station.0 == station.0) && none_or_on_scale entry.now.value) }
     ensures scale { IsTrue result → IfSome entry.now.value IsOnScale }
 {
     entry.station.0 == station.0 && none_or_on_scale(entry.value)
@@ -43,37 +48,48 @@ fn none_or_on_scale(value: Option<Tenths>) -> bool
     }
 }
 
-/// What a station says at the target: its value less its own factor, plus the target's. None where it is not near or
-/// does not report.
+/// What a station says at a place: its value less its factor. None where it is not near or does not
+/// report.
 fn said_by(
     site: &StationSite,
     station: StationNo,
     history: &[Entry],
-    target: &TargetSite,
+    place: Point,
 ) -> Option<Tenths>
-    requires place { IsPlace site.now.at }
+    requires at { IsPlace site.now.at }
     requires factor { IsFactor site.now.factor }
-    requires target_place { IsPlace target.now.at }
-    requires target_factor { IsFactor target.now.factor }
-    ensures some { IfSome result (λ t. IsNear site.now.at target.now.at
-        × (value : Tenths) × (shown history.now station.0 ≡ Some value) × (t.0 ≡ corrected site.now target.now value)) }
-    ensures none { IfNone result (IsNear site.now.at target.now.at → shown history.now station.0 ≡ None) }
+    requires place { IsPlace place }
+    ensures some { (stations : ℕ) → station.0 < stations → IfSome result (λ t.
+        IsNear site.now.at place × (value : Tenths)
+        × (shown stations history.now station.0 ≡ Some value) × (t.0 ≡ corrected site.now value)) }
+    ensures none { (stations : ℕ) → station.0 < stations → IfNone result
+        (IsNear site.now.at place → shown stations history.now station.0 ≡ None) }
+    ensures range { IfSome result IsOnCorrectedScale }
 {
-    if !near(site.at, target.at) {
+    if !near(site.at, place) {
         return None;
     }
     let value = shown(history, station)?;
-    Some(moved(value, site.factor, target.factor))
+    Some(less(value, site.factor))
 }
 
-/// A value less one factor, plus the other.
-fn moved(value: Tenths, from: Tenths, to: Tenths) -> Tenths
+/// A value less the factor of its station.
+fn less(value: Tenths, factor: Tenths) -> Tenths
     requires scale { IsOnScale value }
-    requires from { IsFactor from }
-    requires to { IsFactor to }
-    ensures { result.0 ≡ (value.0 -ℤ from.0) +ℤ to.0 }
+    requires factor { IsFactor factor }
+    ensures value { result.0 ≡ value.0 -ℤ factor.0 }
+    ensures range { IsOnCorrectedScale result }
 {
-    Tenths(value.0 - from.0 + to.0)
+    Tenths(value.0 - factor.0)
+}
+
+/// The best at a place plus the factor of a target there.
+fn plus(best: Tenths, factor: Tenths) -> Tenths
+    requires scale { IsOnCorrectedScale best }
+    requires factor { IsFactor factor }
+    ensures { result.0 ≡ best.0 +ℤ factor.0 }
+{
+    Tenths(best.0 + factor.0)
 }
 
 /// The greater of what two stations say; none is below each value.
@@ -85,21 +101,35 @@ fn greater_of(a: Option<Tenths>, b: Option<Tenths>) -> Option<Tenths>
     a.max(b)
 }
 
-/// The prediction at a target over the board after these entries: the greatest of what the stations say.
-pub fn predict(stations: &[StationSite], history: &[Entry], target: &TargetSite) -> Option<Tenths>
-    requires few { length stations.now ≤ 4096 }
+/// The best at a place over the board after these entries: the greatest of what the stations say.
+fn best_at(stations: &[StationSite], history: &[Entry], place: Point) -> Option<Tenths>
+    requires few { length stations.now ≤ MOST_STATIONS }
     requires places { All (λ s. IsPlace s.at) stations.now }
     requires factors { All (λ s. IsFactor s.factor) stations.now }
-    requires target_place { IsPlace target.now.at }
-    requires target_factor { IsFactor target.now.factor }
-    ensures { IsPrediction stations.now history.now target.now result }
+    requires place { IsPlace place }
+    ensures best { IsBest stations.now (shown (length stations.now) history.now) place result }
+    ensures range { IfSome result IsOnCorrectedScale }
 {
     // For the contract: which stations are near.
     near_stations_are_those_near();
     let mut greatest = None;
     for (n, site) in stations.iter().enumerate() {
-        let said = said_by(site, StationNo(n as u16), history, target);
+        let said = said_by(site, StationNo(n as u16), history, place);
         greatest = greater_of(greatest, said);
     }
     greatest
+}
+
+/// The prediction at a target over the board after these entries: the best at its place, plus its
+/// factor.
+pub fn predict(stations: &[StationSite], history: &[Entry], target: &TargetSite) -> Option<Tenths>
+    requires few { length stations.now ≤ MOST_STATIONS }
+    requires places { All (λ s. IsPlace s.at) stations.now }
+    requires factors { All (λ s. IsFactor s.factor) stations.now }
+    requires target_place { IsPlace target.now.at }
+    requires target_factor { IsFactor target.now.factor }
+    ensures { IsPredictionOver stations.now history.now target.now result }
+{
+    let best = best_at(stations, history, target.at)?;
+    Some(plus(best, target.factor))
 }

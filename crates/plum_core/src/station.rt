@@ -1,15 +1,14 @@
 //! A station: its keys and its engine.
 
-ghost use Rattle.std.specs.Prelude.{◌≡◌, List, [], ◌∷◌, ◌++◌, IfOk};
-ghost use Rattle.plum_base.specs.declared.numbers.Key.{Key};
+ghost use Rattle.std.specs.Prelude.{◌≡◌, ℕ, List, [], ◌∷◌, ◌++◌, IfOk};
+ghost use Rattle.plum_base.specs.declared.packet.Packet.{Packet};
 ghost use Rattle.plum_base.specs.declared.setup.Setup.{Setup};
-ghost use Rattle.plum_base.specs.declared.wave.Sample.{Sample};
 ghost use Rattle.plum_engine.specs.Engine.{pass_through};
 ghost use Rattle.plum_core.specs.Station.{Stands, Gives};
 
 use plum_base::{Entry, Key, LaneNo, NoMemory, Packet, Setup};
 use plum_engine::Engine;
-use plum_seq::{Seq, Verdict, kept_keys};
+use plum_seq::{Seq, Verdict, kept_packets};
 use std::alloc::Global;
 
 /// One station at work.
@@ -32,7 +31,7 @@ impl Station {
     /// A station to which nothing was given. It takes all its memory here.
     pub fn new(alloc: Global, setup: &Setup) -> Result<Station, NoMemory>
         requires { setup.now.cascade ≡ pass_through }
-        ensures { IfOk result (λ station. Stands station setup.now []) }
+        ensures { (s : ℕ) → IfOk result (λ station. Stands station setup.now s []) }
     {
         Ok(Station {
             keys: Seq::new(),
@@ -42,13 +41,15 @@ impl Station {
 
     /// Takes the next packet of the station, which is of this lane.
     pub fn take(&mut self, lane: LaneNo, packet: Packet) -> Taken
-        ensures stands { (setup : Setup) (packets : List (Key × List Sample)) → Stands self.old setup packets
-            → Stands self.new setup (packets ++ (packet.key, packet.wave) ∷ []) }
-        ensures gives { (setup : Setup) (packets : List (Key × List Sample)) → Stands self.old setup packets
+        ensures stands { (setup : Setup) (packets : List Packet)
+            → Stands self.old setup packet.station.0 packets
+            → Stands self.new setup packet.station.0 (packets ++ packet ∷ []) }
+        ensures gives { (setup : Setup) (packets : List Packet)
+            → Stands self.old setup packet.station.0 packets
             → Gives setup packets lane packet result }
     {
         // For the contract: what the packet does to the kept ones.
-        kept_keys();
+        kept_packets();
         let fresh = match self.keys.judge(packet.key) {
             Verdict::Repeat { last } => return Taken::Repeat { last },
             Verdict::Fresh => true,

@@ -1,4 +1,5 @@
-use Rattle.plum_core.proofs.Runs.{front_gathered, answers_predicted, front_published, front_seen, fronts_rise}
+use Rattle.plum_core.proofs.Later.{front_gathered, answers_predicted, front_published, front_seen}
+use Rattle.plum_core.proofs.Later.{fronts_rise}
 use Rattle.plum_core.proofs.laws.readings_are_predictions.Goals as goal
 
 pub returns-clause-front : goal.returns-clause-front

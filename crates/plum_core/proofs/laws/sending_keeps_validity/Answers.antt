@@ -13,11 +13,13 @@ pub returns-clause-joins : goal.returns-clause-joins
 returns-clause-joins c = IsValidHistory-joined
 
 pub returns-clause-order : goal.returns-clause-order
-returns-clause-order c = λ lane e sent all own order. ap (λ xs. xs ++ e ∷ []) order ∙ sym (entries_of_lane-push lane all e own)
+returns-clause-order c = λ lane e sent all own order.
+    ap (λ xs. xs ++ e ∷ []) order ∙ sym (entries_of_lane-push lane all e own)
 
 pub returns-clause-others : goal.returns-clause-others
 returns-clause-others c = λ lane e sent all other order.
-    let is : (e.lane.0 == lane) ≡ false = grind (arith, nat_tests) in order ∙ sym (entries_of_lane-push_other lane all e is)
+    let is : (e.lane.0 == lane) ≡ false = grind (arith, nat_tests) in
+    order ∙ sym (entries_of_lane-push_other lane all e is)
 
 pub returns-clause-backlog : goal.returns-clause-backlog
-returns-clause-backlog c = λ setup stations lane taken e sent backlog. IsBacklog-sent setup stations lane taken e sent backlog
+returns-clause-backlog c = IsBacklog-sent

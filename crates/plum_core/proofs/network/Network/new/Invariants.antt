@@ -1,4 +1,4 @@
-use Rattle.std.proofs.Common.{◌≡◌, [], length}
+use Rattle.std.proofs.Common.{◌≡◌, ℕ, [], length}
 use Rattle.std.specs.Prelude.{All}
 use Rattle.plum_core.specs.Station.{Stands}
 use Rattle.plum_core.proofs.network.Network.new.Given as goal
@@ -6,5 +6,5 @@ use Rattle.plum_core.proofs.network.Network.new.Given as goal
 abbrev pub invariant-loop : goal.invariant-loop
 invariant-loop l = record {
   count : length l.stations.items ≡ l.counter;
-  each : All (λ station. Stands station l.setup []) l.stations.items;
+  each : All (λ station. (s : ℕ) → Stands station l.setup s []) l.stations.items;
 }

@@ -1,4 +1,4 @@
-//! A whole run of the machine on one thread.
+//! The machine over a list of events, on one thread.
 
 ghost use Rattle.std.specs.Prelude.{◌≡◌, ◌^◌, ◌<◌, All, IfOk, vec_len};
 ghost use Rattle.plum_engine.specs.Engine.{pass_through};
@@ -21,7 +21,8 @@ pub fn play(
     requires cascade { setup.now.cascade ≡ pass_through }
     requires exist { All (NamesExist setup.now sites.now) events.items }
     requires few { vec_len events < 2 ^ 32 }
-    ensures { IfOk result (λ replies. AreReplies setup.now sites.now start events.items replies.items) }
+    ensures { IfOk result (λ replies.
+        AreReplies setup.now sites.now start events.items replies.items) }
 {
     let mut machine = Machine::new(alloc, sites, setup)?;
     let mut replies = Vec::new(alloc);

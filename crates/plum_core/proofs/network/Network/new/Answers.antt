@@ -1,0 +1,24 @@
+use Rattle.std.proofs.Common.{ℕ, ◌+◌, [], refl, ◌∙◌, ap}
+use Rattle.std.proofs.lemmas.List.{length_push}
+use Rattle.std.proofs.lemmas.List.Elements.{All-push}
+use Rattle.plum_core.specs.Station.{Stands}
+use Rattle.plum_core.proofs.network.Network.new.Goals as goal
+
+pub loop-preserved : goal.loop-preserved
+loop-preserved c =
+    let before = c.loop.invariant in
+    record {
+      count =
+          rw c.in_ok-push.ensures.items
+          (length_push c.loop.stations.items _ ∙ ap (λ n. n + 1) before.count);
+      each =
+          rw c.in_ok-push.ensures.items
+          (All-push (λ station. (s : ℕ) → Stands station c.args.setup.now s []) _ _ before.each
+          c.in_ok-new.ensures);
+    }
+
+pub returns-clause-stand : goal.returns-clause-stand
+returns-clause-stand c = record {
+  lanes = refl;
+  each = λ s d below. c.loop.invariant.each s d below s;
+}

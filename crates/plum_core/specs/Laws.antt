@@ -1,0 +1,179 @@
+-- The statements of the laws of histories and of the machine. A station's value is known so far
+-- where the cascade passes its input through, and the laws that rest on it have that as a premise.
+use Rattle.std.specs.Prelude.{◌≡◌, ◌≢◌, ◌↔◌, ℕ, ◌<◌, ◌≤◌, List, [], ◌∷◌, ◌++◌, length, take}
+use Rattle.std.specs.Prelude.{slice_get, All, Some, None, IsSomeAnd}
+use Rattle.std.specs.List.{flat_map}
+use Rattle.plum_base.specs.declared.answers.Reading.{Reading}
+use Rattle.plum_base.specs.declared.entry.Entry.{Entry}
+use Rattle.plum_base.specs.declared.numbers.AreaNo.{AreaNo}
+use Rattle.plum_base.specs.declared.packet.Packet.{Packet}
+use Rattle.plum_base.specs.declared.setup.Setup.{Setup}
+use Rattle.plum_base.specs.Lane.{lane_of}
+use Rattle.plum_base.specs.Levels.{IsLevelTable}
+use Rattle.plum_base.specs.Sites.{SitesView, areas_of}
+use Rattle.plum_seq.specs.Keys.{of_station, kept}
+use Rattle.plum_engine.specs.Engine.{pass_through, IsValueOf}
+use Rattle.plum_geo.specs.Prediction.{shown}
+use Rattle.plum_core.specs.declared.event.Event.{Event}
+use Rattle.plum_core.specs.declared.event.Reply.{Reply}
+use Rattle.plum_core.specs.History.{packets_of, entries_of_lane, IsEntryAfter, IsValidHistory}
+use Rattle.plum_core.specs.History.{HoldsKept}
+use Rattle.plum_core.specs.Facts.{IsInLaneOrder, IsBacklog, KeepsFacts}
+use Rattle.plum_core.specs.Machine.{State, start, step, state_after, waiting_after, AreReplies}
+use Rattle.plum_core.specs.Machine.{IsReadAt, NamesExist}
+use Rattle.plum_core.specs.Transcript.{Transcript, entries_up_to, journal_of, targets_of}
+use Rattle.plum_core.specs.Transcript.{ArePredictions, IsLegal, IsLegalUpTo}
+
+-- The setup's cascade passes its input through, and its table is lawful.
+pub record IsPlain (setup : Setup) : Type 0 where
+  pub cascade : setup.cascade ≡ pass_through
+  pub table : IsLevelTable setup.levels
+
+-- What a station shows in a valid history is its value there: the plain function of its
+-- packets since its last gap.
+abbrev pub ShowsItsValue : Type 0
+ShowsItsValue = (setup : Setup) (stations s : ℕ) (history : List Entry) → IsPlain setup
+    → IsValidHistory setup stations history
+    → IsValueOf setup (packets_of s history) (shown stations history s)
+
+-- A front of a valid history is valid.
+abbrev pub FrontIsValid : Type 0
+FrontIsValid = (setup : Setup) (stations : ℕ) (front rest : List Entry)
+    → IsValidHistory setup stations (front ++ rest) → IsValidHistory setup stations front
+
+-- A lane's entries in a front are a front of its entries.
+abbrev pub FrontOfLane : Type 0
+FrontOfLane = (lane : ℕ) (front rest : List Entry)
+    → entries_of_lane lane (front ++ rest) ≡ entries_of_lane lane front ++ entries_of_lane lane rest
+
+-- A history of the kept packets has of each station the kept ones of its packets.
+abbrev pub HistoryByStation : Type 0
+HistoryByStation = (station : ℕ) (history : List Entry) (packets : List Packet)
+    → HoldsKept history packets → packets_of station history ≡ kept (of_station station packets)
+
+-- A transcript that is legal up to the last segment is legal, and the other way round.
+abbrev pub LegalToTheEnd : Type 0
+LegalToTheEnd = (setup : Setup) (sites : SitesView) (segments : List (List Packet)) (t : Transcript)
+    → IsLegalUpTo (length segments) setup sites segments t ↔ IsLegal setup sites segments t
+
+-- In a legal transcript the packets of a station in the entries up to mark m are the kept ones of
+-- its packets in segments 1 to m.
+abbrev pub LegalByStation : Type 0
+LegalByStation = (setup : Setup) (sites : SitesView) (segments : List (List Packet))
+    (t : Transcript) (m station : ℕ) → IsLegal setup sites segments t
+    → packets_of station (entries_up_to m t)
+    ≡ kept (of_station station (flat_map (λ segment. segment) (take m segments)))
+
+-- In any front of its journal each station shows its value after its packets there.
+abbrev pub LegalShows : Type 0
+LegalShows = (setup : Setup) (sites : SitesView) (segments : List (List Packet)) (t : Transcript)
+    (n s : ℕ) → IsPlain setup → IsLegal setup sites segments t
+    → IsValueOf setup (packets_of s (take n (journal_of t)))
+    (shown (length sites.stations) (take n (journal_of t)) s)
+
+-- A packet taken by a lane in which nothing waits keeps the lane's backlog.
+abbrev pub TakingKeeps : Type 0
+TakingKeeps = (setup : Setup) (stations : ℕ) (taken : List Packet) (p : Packet) (sent : List Entry)
+    → IsPlain setup → p.station.0 < stations
+    → IsBacklog setup stations (lane_of setup.lanes p.station.0) taken None sent
+    → IsBacklog setup stations (lane_of setup.lanes p.station.0) (taken ++ p ∷ [])
+    (waiting_after setup taken p) sent
+
+-- A valid history stays valid when a lane's next entry joins its end: one that is correct after
+-- what the lane sent.
+abbrev pub NextEntryJoins : Type 0
+NextEntryJoins = (setup : Setup) (stations lane : ℕ) (e : Entry) (sent all : List Entry)
+    → IsValidHistory setup stations all → IsInLaneOrder lane sent all → e.lane.0 ≡ lane
+    → IsEntryAfter setup stations sent e → IsValidHistory setup stations (all ++ e ∷ [])
+
+-- So it does when a lane's waiting entry joins: the lane's own order and backlog are enough.
+abbrev pub WaitingEntryJoins : Type 0
+WaitingEntryJoins = (setup : Setup) (stations lane : ℕ) (taken : List Packet) (e : Entry)
+    (sent all : List Entry) → IsValidHistory setup stations all → IsInLaneOrder lane sent all
+    → IsBacklog setup stations lane taken (Some e) sent
+    → IsValidHistory setup stations (all ++ e ∷ [])
+
+-- An entry sent joins its lane's order, and leaves those of the others.
+abbrev pub OrderJoins : Type 0
+OrderJoins = (lane : ℕ) (e : Entry) (sent all : List Entry) → e.lane.0 ≡ lane
+    → IsInLaneOrder lane sent all → IsInLaneOrder lane (sent ++ e ∷ []) (all ++ e ∷ [])
+
+abbrev pub OrderStays : Type 0
+OrderStays = (lane : ℕ) (e : Entry) (sent all : List Entry) → e.lane.0 ≢ lane
+    → IsInLaneOrder lane sent all → IsInLaneOrder lane sent (all ++ e ∷ [])
+
+-- It leaves the backlog of its lane.
+abbrev pub SendingKeeps : Type 0
+SendingKeeps = (setup : Setup) (stations lane : ℕ) (taken : List Packet) (e : Entry)
+    (sent : List Entry) → IsBacklog setup stations lane taken (Some e) sent
+    → IsBacklog setup stations lane taken None (sent ++ e ∷ [])
+
+-- The six facts hold at the start, after each step by an event that names what exists, and after
+-- all such events.
+abbrev pub FactsAtStart : Type 0
+FactsAtStart = (setup : Setup) (stations : ℕ) → KeepsFacts setup stations start
+
+abbrev pub StepKeepsFacts : Type 0
+StepKeepsFacts = (setup : Setup) (sites : SitesView) (s : State) (event : Event) → IsPlain setup
+    → NamesExist setup sites event → KeepsFacts setup (length sites.stations) s
+    → KeepsFacts setup (length sites.stations) (step setup s event)
+
+abbrev pub EventsKeepFacts : Type 0
+EventsKeepFacts = (setup : Setup) (sites : SitesView) (events : List Event) → IsPlain setup
+    → All (NamesExist setup sites) events
+    → KeepsFacts setup (length sites.stations) (state_after setup start events)
+
+-- These are the replies to the events from the start, and this reading is the reply at position i,
+-- to a read of the area.
+pub record Replied (setup : Setup) (sites : SitesView) (events : List Event) (replies : List Reply)
+    (i : ℕ) (area : AreaNo) (reading : Reading) : Type 0 where
+  pub are_replies : AreReplies setup sites start events replies
+  pub read : IsReadAt events replies i area reading
+
+-- Each reading is over a front of what is gathered in the end, and says the predictions over it.
+abbrev pub FrontIsGathered : Type 0
+FrontIsGathered = (setup : Setup) (sites : SitesView) (events : List Event) (replies : List Reply)
+    (i : ℕ) (area : AreaNo) (reading : Reading) → Replied setup sites events replies i area reading
+    → reading.front ≤ length (state_after setup start events).gathered
+
+abbrev pub AnswersArePredictions : Type 0
+AnswersArePredictions = (setup : Setup) (sites : SitesView) (events : List Event)
+    (replies : List Reply) (i : ℕ) (area : AreaNo) (reading : Reading)
+    → Replied setup sites events replies i area reading
+    → IsSomeAnd (slice_get (areas_of sites.targets) area.0) (λ name. ArePredictions sites.stations
+    (take reading.front (state_after setup start events).gathered)
+    (targets_of name sites.targets) reading.answers)
+
+-- That front is what is published at that moment. It holds all that its session had seen before.
+abbrev pub FrontIsPublished : Type 0
+FrontIsPublished = (setup : Setup) (sites : SitesView) (events : List Event) (replies : List Reply)
+    (i : ℕ) (area : AreaNo) (reading : Reading) → Replied setup sites events replies i area reading
+    → reading.front ≡ (state_after setup start (take i events)).published
+
+abbrev pub FrontHoldsSeen : Type 0
+FrontHoldsSeen = (setup : Setup) (sites : SitesView) (events : List Event) (replies : List Reply)
+    (i : ℕ) (area : AreaNo) (reading : Reading) → Replied setup sites events replies i area reading
+    → (state_after setup start (take i events)).seen area.0 ≤ reading.front
+
+-- The fronts of a session never fall.
+abbrev pub FrontsRise : Type 0
+FrontsRise = (setup : Setup) (sites : SitesView) (events : List Event) (replies : List Reply)
+    (i j : ℕ) (area : AreaNo) (earlier later : Reading) → i ≤ j
+    → Replied setup sites events replies i area earlier
+    → Replied setup sites events replies j area later → earlier.front ≤ later.front
+
+-- Events that name what exists have replies, one for each, and no others.
+abbrev pub RepliesExist : Type 0
+RepliesExist = (setup : Setup) (sites : SitesView) (events : List Event)
+    → All (NamesExist setup sites) events
+    → (replies : List Reply) × AreReplies setup sites start events replies
+
+abbrev pub OneForEach : Type 0
+OneForEach = (setup : Setup) (sites : SitesView) (s : State) (events : List Event)
+    (replies : List Reply) → AreReplies setup sites s events replies
+    → length replies ≡ length events
+
+abbrev pub NoOthers : Type 0
+NoOthers = (setup : Setup) (sites : SitesView) (s : State) (events : List Event)
+    (replies others : List Reply) → AreReplies setup sites s events replies
+    → AreReplies setup sites s events others → others ≡ replies
