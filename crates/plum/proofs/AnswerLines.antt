@@ -1,5 +1,6 @@
 -- The lines of answers, one by one.
-use Rattle.std.proofs.Common.{◌≡◌, ℕ, ◌⊎◌, inl, inr, List, [], ◌∷◌, ◌++◌, Option, refl, sym, ap, ◌∙◌, append-nil, append_assoc}
+use Rattle.std.proofs.Common.{◌≡◌, ℕ, ◌⊎◌, inl, inr, List, [], ◌∷◌, ◌++◌, Option, refl, sym, ap}
+use Rattle.std.proofs.Common.{◌∙◌, append-nil, append_assoc}
 use Rattle.plum_base.specs.declared.numbers.Tenths.{Tenths}
 use Rattle.plum_base.specs.declared.sites.TargetSite.{TargetSite}
 use Rattle.plum.specs.Lines.{answer_line}
@@ -11,8 +12,10 @@ module _ (m : ℕ) where
   no_answers (t ∷ ts) = refl
 
   -- a line is written, and the others are left
-  pub one_line_more : (target : TargetSite) (answer : Option Tenths) (ts us : List TargetSite) (some others : List (Option Tenths)) (out new whole : List ℕ)
-      → ts ≡ target ∷ us → some ≡ answer ∷ others → new ≡ out ++ answer_line m target.name answer → out ++ answer_lines m ts some ≡ whole
+  pub one_line_more : (target : TargetSite) (answer : Option Tenths) (ts us : List TargetSite)
+      (some others : List (Option Tenths)) (out new whole : List ℕ)
+      → ts ≡ target ∷ us → some ≡ answer ∷ others → new ≡ out ++ answer_line m target.name answer
+      → out ++ answer_lines m ts some ≡ whole
       → new ++ answer_lines m us others ≡ whole
   one_line_more target answer ts us some others out new whole first second written so_far =
       ap (λ front. front ++ answer_lines m us others) written
@@ -20,8 +23,13 @@ module _ (m : ℕ) where
       ∙ rw (first, second) at so_far
 
   -- no target or no answer is left
-  pub no_line_more : (ts : List TargetSite) (answers : List (Option Tenths)) (out whole : List ℕ) → (ts ≡ []) ⊎ (answers ≡ [])
+  pub no_line_more : (ts : List TargetSite) (answers : List (Option Tenths)) (out whole : List ℕ)
+      → (ts ≡ []) ⊎ (answers ≡ [])
       → out ++ answer_lines m ts answers ≡ whole → out ≡ whole
   no_line_more ts answers out whole end so_far =
-      let none : answer_lines m ts answers ≡ [] = elim end [ inl e ↦ rw e refl | inr e ↦ rw e (no_answers ts) ] in
+      let none : answer_lines m ts answers ≡ [] = elim end [
+        | inl e ↦ rw e refl
+        | inr e ↦ rw e
+            (no_answers ts)
+      ] in
       sym (append-nil out) ∙ ap (λ lines. out ++ lines) (sym none) ∙ so_far

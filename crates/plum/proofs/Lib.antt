@@ -1,5 +1,6 @@
 pub mod Words
-pub mod Reading
+pub mod Counting
+pub mod Taking
 pub mod AnswerLines
 pub mod Stops
 pub mod OneSegment

@@ -1,5 +1,6 @@
 -- What a replay counts and appends.
-use Rattle.std.proofs.Common.{◌≡◌, ℕ, ◌-◌, ◌≤◌, Bool, true, false, cond, List, [], ◌∷◌, ◌++◌, length, Option, Some, None, refl, sym, ap, subst, ◌∙◌, arith}
+use Rattle.std.proofs.Common.{◌≡◌, ℕ, ◌-◌, ◌≤◌, List, [], ◌∷◌, ◌++◌}
+use Rattle.std.proofs.Common.{length, Option, Some, None, refl, sym, ap, subst, ◌∙◌, arith}
 use Rattle.std.proofs.lemmas.List.{append-nil, length-map}
 use Rattle.plum_base.specs.declared.packet.Packet.{Packet}
 use Rattle.plum_base.specs.declared.answers.Reading.{Reading}
@@ -8,63 +9,96 @@ use Rattle.plum_base.specs.declared.setup.Setup.{Setup}
 use Rattle.plum_base.specs.Sites.{areas_of}
 use Rattle.std.specs.Prelude.{slice_get}
 use Rattle.plum_host.specs.declared.host.To.TheVariants.{Out, Journal}
-use Rattle.plum_host.specs.Told.{Appends}
-use Rattle.plum_seq.specs.Keys.{is_kept}
+use Rattle.plum_host.specs.Told.{HostView, Appends}
 use Rattle.plum.specs.declared.text.lines.Counts.{Counts}
-use Rattle.plum_core.specs.History.{packet_of, of_station, kept_packets_after, HoldsKept, IsValidHistory}
-use Rattle.plum.specs.Replayed.{IsOneSegment, IsReplay}
+use Rattle.plum_core.specs.History.{packet_of, HoldsKept, IsValidHistory}
+use Rattle.plum_base.specs.declared.sites.StationSite.{StationSite}
+use Rattle.plum_host.specs.declared.host.In.TheVariants.{Capture}
+use Rattle.plum.specs.Replayed.{IsOneSegment, IsReplay, IsReadWhole, ReadsOneSegment}
 use Rattle.plum.specs.BuiltIn.{IsBuiltInSetup, built_in_stations, built_in_targets, built_in_sites}
 use Rattle.plum.specs.Texts.{entry_lines, one_area, sections_of, output_text}
 use Rattle.plum_core.specs.Transcript.{targets_of, ArePredictions, IsLegal}
-use Rattle.plum.proofs.OneSegment.{IsOne, all_lawful, packets_in-all_lawful, read_one, one_reading, legal_one, journal_one, section_one}
+use Rattle.plum_packet.specs.Laws.{OneSegment}
+use Rattle.plum.proofs.AddingUp.{few_kept}
+use Rattle.plum.proofs.OneSegment.{all_lawful, packets_in-all_lawful, decoded_one, one_reading}
+use Rattle.plum.proofs.OneSegment.{legal_one, journal_one, section_one}
 
-no_more : (b : Bool) (p : Packet) (ps kept : List Packet) → length kept ≤ length ps → length (cond b (p ∷ kept) kept) ≤ length (p ∷ ps)
-no_more true p ps kept h = omega arith
-no_more false p ps kept h = omega arith
-
--- no more packets are kept than there are
-length-kept_packets_after : (earlier ps : List Packet) → length (kept_packets_after earlier ps) ≤ length ps
-length-kept_packets_after earlier [] = omega arith
-length-kept_packets_after earlier (p ∷ ps) =
-    no_more (is_kept (of_station p.station.0 earlier) p.key) p ps (kept_packets_after (earlier ++ p ∷ []) ps) (length-kept_packets_after (earlier ++ p ∷ []) ps)
-
-pub length-HoldsKept : (history : List Entry) (packets : List Packet) → HoldsKept history packets → length history ≤ length packets
+-- a history of the kept packets is no longer than the packets
+pub length-HoldsKept : (history : List Entry) (packets : List Packet) → HoldsKept history packets
+    → length history ≤ length packets
 length-HoldsKept history packets holds =
-    omega (arith, length-map history packet_of, ap length holds, length-kept_packets_after [] packets)
+    omega (arith, length-map history packet_of, ap length holds, few_kept [] packets)
 
 -- nothing, and then a text
-pub appends_text : (text : List ℕ) (before opened after : Option (List ℕ)) → Appends before opened [] → Appends opened after text → Appends before after text
+pub appends_text : (text : List ℕ) (before opened after : Option (List ℕ))
+    → Appends before opened [] → Appends opened after text → Appends before after text
 appends_text text None opened after h k = tt
 appends_text text (Some held) opened after h k =
     (subst (λ o. Appends o after text) h k) ∙ ap (λ front. Some (front ++ text)) (append-nil held)
 
-module _ (setup : Setup) (built_in : IsBuiltInSetup setup) (capture : List ℕ) (packets : List Packet) (tail : ℕ) (segment : IsOneSegment built_in_stations capture packets tail) where
+module _ (setup : Setup) (built_in : IsBuiltInSetup setup) (capture : List ℕ)
+    (packets : List Packet) (tail : ℕ)
+    (segment : IsOneSegment built_in_stations capture packets tail) where
   -- The answers for the one area are those for all targets.
-  of_the_area : (history : List Entry) (reading : Reading) → ArePredictions built_in_stations history built_in_targets reading.answers → (area : List ℕ)
-      → slice_get (areas_of built_in_targets) 0 ≡ Some area → ArePredictions built_in_stations history (targets_of area built_in_targets) reading.answers
+  of_the_area : (history : List Entry) (reading : Reading)
+      → ArePredictions built_in_stations history built_in_targets reading.answers → (area : List ℕ)
+      → slice_get (areas_of built_in_targets) 0 ≡ Some area
+      → ArePredictions built_in_stations history
+      (targets_of area built_in_targets) reading.answers
   of_the_area history reading are area named =
       let is : 97 ∷ [] ≡ area = cc in
-      subst (λ name. ArePredictions built_in_stations history (targets_of name built_in_targets) reading.answers) is are
+      subst (λ name. ArePredictions built_in_stations history
+      (targets_of name built_in_targets) reading.answers) is are
 
   -- The lines of a valid and complete history, and the output of a reading over it, make a replay.
-  pub replay_of : IsOne → (history : List Entry) (reading : Reading) (counts : Counts) (journal output : List ℕ) → IsValidHistory setup 1 history → HoldsKept history packets
-      → reading.front ≡ length history → ArePredictions built_in_stations history built_in_targets reading.answers
-      → counts ≡ record { bodies = length packets; kept = length history; repeats = length packets - length history; refused = 0 }
-      → journal ≡ entry_lines built_in_stations 1 1 history → output ≡ output_text built_in_targets (one_area counts reading ∷ []) tail
+  pub replay_of : OneSegment
+      → (history : List Entry) (reading : Reading) (counts : Counts) (journal output : List ℕ)
+      → IsValidHistory setup 1 history → HoldsKept history packets
+      → reading.front ≡ length history
+      → ArePredictions built_in_stations history built_in_targets reading.answers
+      → counts ≡ record {
+        bodies = length packets;
+        kept = length history;
+        repeats =
+            length packets - length history;
+        refused = 0;
+      }
+      → journal ≡ entry_lines built_in_stations 1 1 history
+      → output ≡ output_text built_in_targets (one_area counts reading ∷ []) tail
       → IsReplay setup built_in_sites capture journal output
-  replay_of one history reading counts journal output valid holds front are counted journal_is output_is = record {
-    bodies = segment.bodies;
-    rest = segment.rest;
-    reading = segment.reading;
-    segments = all_lawful 1 packets ∷ [];
-    read = read_one one built_in_stations segment.bodies packets segment.decoded segment.few;
-    transcript = one_reading history reading;
-    legal = subst (λ ps. IsLegal setup built_in_sites (ps ∷ []) (one_reading history reading)) (sym (packets_in-all_lawful 1 packets))
-        (legal_one setup built_in_sites history reading packets front valid holds refl (of_the_area history reading are));
-    journal_is = journal_is ∙ sym (journal_one built_in_stations history reading);
-    output_is = output_is ∙ ap (λ sections. output_text built_in_targets sections tail) (sym (section_one history reading packets counts holds counted))
-        ∙ ap (output_text built_in_targets (sections_of (all_lawful 1 packets ∷ []) ((reading ∷ []) ∷ []))) segment.tail_is;
-  }
+  replay_of one history reading counts journal output valid holds front are counted journal_is
+      output_is = record {
+        bodies = segment.bodies;
+        rest = segment.rest;
+        capture_is = segment.capture_is;
+        segments = all_lawful 1 packets ∷ [];
+        decoded =
+            decoded_one one built_in_stations segment.bodies packets segment.decoded segment.few;
+        transcript = one_reading history reading;
+        legal = subst (λ ps. IsLegal setup built_in_sites (ps ∷ []) (one_reading history reading))
+            (sym (packets_in-all_lawful 1 packets))
+            (legal_one setup built_in_sites history reading packets front valid holds refl
+            (of_the_area history reading are));
+        journal_is = journal_is ∙ sym (journal_one built_in_stations history reading);
+        output_is = output_is
+            ∙ ap (λ sections. output_text built_in_targets sections tail)
+            (sym (section_one history reading packets counts holds counted))
+            ∙ ap (output_text built_in_targets (sections_of (all_lawful 1 packets ∷ [])
+            ((reading ∷ []) ∷ []))) segment.tail_is;
+      }
+
+-- A capture that is read whole, between writes that leave it alone.
+pub whole_between : (stations : List StationSite) (packets : List Packet) (tail : ℕ)
+    (before opened read after : HostView) → stations ≡ built_in_stations
+    → opened.left Capture ≡ before.left Capture → after.left Capture ≡ read.left Capture
+    → IsReadWhole stations packets tail opened read → ReadsOneSegment before after
+whole_between stations packets tail before opened read after is first last whole = (
+  packets,
+  tail,
+  λ capture told.
+      let all = whole capture (first ∙ told) in
+      (subst (λ sites. IsOneSegment sites capture packets tail) is all.0, last ∙ all.1),
+)
 
 pub outputs_differ : Journal ≡ Out → ⊥
 outputs_differ e = absurd cc

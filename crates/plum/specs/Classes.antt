@@ -2,7 +2,8 @@
 use Rattle.std.specs.Prelude.{ℕ, pos, int_lt, if◌then◌else◌, List, codes}
 use Rattle.plum_base.specs.declared.numbers.Tenths.{Tenths}
 use Rattle.plum_base.specs.declared.rules.Class.{Class}
-use Rattle.plum_base.specs.declared.rules.Class.TheVariants.{C0, C1, C2, C3, C4, C5Lower, C5Upper, C6Lower, C6Upper, C7}
+use Rattle.plum_base.specs.declared.rules.Class.TheVariants.{C0, C1, C2, C3, C4, C5Lower, C5Upper}
+use Rattle.plum_base.specs.declared.rules.Class.TheVariants.{C6Lower, C6Upper, C7}
 
 -- the class of an intensity in tenths
 abbrev pub class_of : Tenths → Class

@@ -1,11 +1,13 @@
--- Lines of the journal and of the output (the project's own format). Fields are separated by one space, and each line
--- ends with a line feed.
-use Rattle.std.specs.Prelude.{ℕ, suc, ◌/◌, ◌%◌, Bool, true, false, ℤ, pos, negsuc, List, [], ◌∷◌, ◌++◌, Option, Some, None, codes, decimal}
+-- Lines of the journal and of the output (the project's own format). Fields are separated by one
+-- space, and each line ends with a line feed.
+use Rattle.std.specs.Prelude.{ℕ, suc, ◌/◌, ◌%◌, Bool, true, false, ℤ, pos, negsuc, List, [], ◌∷◌}
+use Rattle.std.specs.Prelude.{◌++◌, Option, Some, None, codes, decimal}
 use Rattle.std.specs.List.{flat_map}
 use Rattle.plum_base.specs.declared.numbers.Key.{Key}
 use Rattle.plum_base.specs.declared.numbers.Tenths.{Tenths}
 use Rattle.plum_base.specs.declared.packet.PacketFault.{PacketFault}
-use Rattle.plum_base.specs.declared.packet.PacketFault.TheVariants.{Short, Magic, Version, Flags, Station, Count, Length}
+use Rattle.plum_base.specs.declared.packet.PacketFault.TheVariants.{Short, Magic, Version, Flags}
+use Rattle.plum_base.specs.declared.packet.PacketFault.TheVariants.{Station, Count, Length}
 use Rattle.plum.specs.declared.text.lines.Counts.{Counts}
 use Rattle.plum.specs.Classes.{class_of, class_text}
 
@@ -44,12 +46,20 @@ run_text false = codes "C"
 -- E n segment station boot number run value
 abbrev pub entry_line : ℕ → ℕ → ℕ → Key → Bool → Option Tenths → List ℕ
 entry_line n segment code key fresh value =
-    line (codes "E") (decimal n ∷ decimal segment ∷ decimal code ∷ decimal key.boot ∷ decimal key.number ∷ run_text fresh ∷ value_text value ∷ [])
+    line (codes "E")
+    (decimal n ∷ decimal segment ∷ decimal code ∷ decimal key.boot ∷ decimal key.number
+    ∷ run_text fresh ∷ value_text value ∷ [])
 
--- a number and four counts: bodies kept repeats refused
+-- four counts: bodies kept repeats refused
+abbrev pub counts_texts : Counts → List (List ℕ)
+counts_texts counts =
+    decimal counts.bodies ∷ decimal counts.kept ∷ decimal counts.repeats
+    ∷ decimal counts.refused ∷ []
+
+-- a number and four counts
 abbrev pub counts_line : List ℕ → ℕ → Counts → List ℕ
 counts_line kind first counts =
-    line kind (decimal first ∷ decimal counts.bodies ∷ decimal counts.kept ∷ decimal counts.repeats ∷ decimal counts.refused ∷ [])
+    line kind (decimal first ∷ counts_texts counts)
 
 -- M m bodies kept repeats refused
 abbrev pub mark_line : ℕ → Counts → List ℕ
@@ -75,7 +85,8 @@ reading_line m area front = line (codes "R") (decimal m ∷ area ∷ decimal fro
 
 -- P m target value class
 abbrev pub answer_line : ℕ → List ℕ → Option Tenths → List ℕ
-answer_line m target value = line (codes "P") (decimal m ∷ target ∷ value_text value ∷ value_class_text value ∷ [])
+answer_line m target value = line (codes "P")
+    (decimal m ∷ target ∷ value_text value ∷ value_class_text value ∷ [])
 
 -- T bytes
 abbrev pub tail_line : ℕ → List ℕ

@@ -1,8 +1,11 @@
--- Statuses: their numbers and texts (the project's own).
+-- Statuses: their numbers and texts, and what they count (the project's own).
 use Rattle.std.specs.Prelude.{ℕ, List, [], ◌∷◌, codes, decimal}
+use Rattle.plum_host.specs.Told.{HostView}
 use Rattle.plum.specs.Lines.{line}
+use Rattle.plum.specs.Stops.{CountsNothing, CountsRead, CountsWrite}
 use Rattle.plum.specs.declared.status.Status.{Status}
-use Rattle.plum.specs.declared.status.Status.TheVariants.{Done, Usage, ReadFault, WriteFault, NoMemory, NotYet}
+use Rattle.plum.specs.declared.status.Status.TheVariants.{Done, Usage, ReadFault, WriteFault}
+use Rattle.plum.specs.declared.status.Status.TheVariants.{NoMemory, NotYet}
 
 abbrev pub number_of : Status → ℕ
 number_of Done = 0
@@ -19,3 +22,12 @@ text_of ReadFault = codes "plum: read fault\n"
 text_of WriteFault = codes "plum: write fault\n"
 text_of NoMemory = codes "plum: no memory\n"
 text_of (NotYet n) = line (codes "plum: not yet") (decimal n ∷ [])
+
+-- What is counted where a call ends so: the one fault that ended it, and nothing else.
+abbrev pub CountsEnd : Status → HostView → HostView → Type 0
+CountsEnd ReadFault before after = CountsRead before after
+CountsEnd WriteFault before after = CountsWrite before after
+CountsEnd Done before after = CountsNothing before after
+CountsEnd Usage before after = CountsNothing before after
+CountsEnd NoMemory before after = CountsNothing before after
+CountsEnd (NotYet n) before after = CountsNothing before after

@@ -1,5 +1,6 @@
--- The two texts of a run: the journal and the output (the project's own format).
-use Rattle.std.specs.Prelude.{◌≡◌, ℕ, ◌+◌, ◌-◌, List, [], ◌∷◌, ◌++◌, length, map, sum_by, zip, Option, Some, None, Result, slice_get}
+-- The two texts of a replay: the journal and the output (the project's own format).
+use Rattle.std.specs.Prelude.{◌≡◌, ℕ, ◌+◌, ◌-◌, List, [], ◌∷◌, ◌++◌, length, map, sum_by, zip}
+use Rattle.std.specs.Prelude.{Option, Some, None, Result, slice_get}
 use Rattle.std.specs.List.{flat_map}
 use Rattle.plum_base.specs.declared.answers.Reading.{Reading}
 use Rattle.plum_base.specs.declared.entry.Entry.{Entry}
@@ -11,7 +12,8 @@ use Rattle.plum_base.specs.declared.sites.TargetSite.{TargetSite}
 use Rattle.plum_base.specs.Sites.{areas_of}
 use Rattle.plum_packet.specs.Segments.{packets_in, refused_in}
 use Rattle.plum.specs.declared.text.lines.Counts.{Counts}
-use Rattle.plum.specs.Lines.{entry_line, mark_line, refused_line, reading_line, answer_line, tail_line, totals_line}
+use Rattle.plum.specs.Lines.{entry_line, mark_line, refused_line, reading_line, answer_line}
+use Rattle.plum.specs.Lines.{tail_line, totals_line}
 use Rattle.plum_core.specs.Transcript.{Transcript, kept_in_segments, targets_of}
 
 -- the code of the n-th station, from 0
@@ -26,7 +28,8 @@ code_of_station stations n = code_in (slice_get stations n)
 abbrev pub entry_lines : List StationSite → ℕ → ℕ → List Entry → List ℕ
 entry_lines stations segment n [] = []
 entry_lines stations segment n (e ∷ es) =
-    entry_line n segment (code_of_station stations e.station.0) e.key e.fresh e.value ++ entry_lines stations segment (n + 1) es
+    entry_line n segment (code_of_station stations e.station.0) e.key e.fresh e.value
+    ++ entry_lines stations segment (n + 1) es
 
 -- the lines of these parts of the journal, the first of them of this segment and with this position
 abbrev pub part_lines : List StationSite → ℕ → ℕ → List (List Entry) → List ℕ
@@ -38,13 +41,13 @@ part_lines stations segment n (part ∷ parts) =
 abbrev pub journal_text : List StationSite → Transcript → List ℕ
 journal_text stations t = part_lines stations 1 1 t.parts
 
--- how many bodies a segment has, read, and how many of them are kept, repeats and refused
+-- how many bodies a segment has, decoded, and how many of them are kept, repeats and refused
 abbrev pub counts_of : List (ℕ × Result Packet PacketFault) → List Packet → Counts
-counts_of read kept = record {
-  bodies = length read;
+counts_of segment kept = record {
+  bodies = length segment;
   kept = length kept;
-  repeats = length (packets_in read) - length kept;
-  refused = length (refused_in read);
+  repeats = length (packets_in segment) - length kept;
+  refused = length (refused_in segment);
 }
 
 -- Each body is counted once: it is kept, a repeat, or refused.
@@ -57,19 +60,27 @@ pub record Section : Type 0 where
   pub refused : List (ℕ × PacketFault)
   pub readings : List Reading
 
--- the section of a segment, read, of which these packets are kept, with the readings at its mark
+-- the section of a segment, decoded, of which these packets are kept, with the readings at its mark
 abbrev pub section_of : List (ℕ × Result Packet PacketFault) → List Packet → List Reading → Section
-section_of segment kept readings = record { counts = counts_of segment kept; refused = refused_in segment; readings = readings }
+section_of segment kept readings = record {
+  counts = counts_of segment kept;
+  refused =
+      refused_in segment;
+  readings = readings;
+}
 
 -- one section for each segment
-abbrev pub sections_from : List (List (ℕ × Result Packet PacketFault)) → List (List Packet) → List (List Reading) → List Section
+abbrev pub sections_from : List (List (ℕ × Result Packet PacketFault)) → List (List Packet)
+    → List (List Reading) → List Section
 sections_from (segment ∷ segments) (kept ∷ more_kept) (readings ∷ more_readings) =
     section_of segment kept readings ∷ sections_from segments more_kept more_readings
 sections_from segments kept readings = []
 
--- the sections of these segments, read, with the readings at their marks
-abbrev pub sections_of : List (List (ℕ × Result Packet PacketFault)) → List (List Reading) → List Section
-sections_of segments readings = sections_from segments (kept_in_segments (map packets_in segments)) readings
+-- the sections of these segments, decoded, with the readings at their marks
+abbrev pub sections_of : List (List (ℕ × Result Packet PacketFault)) → List (List Reading)
+    → List Section
+sections_of segments readings = sections_from segments
+    (kept_in_segments (map packets_in segments)) readings
 
 -- the section of a segment without a refused body, of one area
 abbrev pub one_area : Counts → Reading → Section
@@ -81,13 +92,15 @@ answer_lines m targets answers = flat_map (λ a. answer_line m a.0.name a.1) (zi
 
 -- the reading of an area at mark m, over these targets of the area
 abbrev pub reading_lines : ℕ → List ℕ → List TargetSite → Reading → List ℕ
-reading_lines m area targets reading = reading_line m area reading.front ++ answer_lines m targets reading.answers
+reading_lines m area targets reading = reading_line m area reading.front
+    ++ answer_lines m targets reading.answers
 
 -- the section of mark m; at this stage there are no alerts
 abbrev pub section_text : List TargetSite → ℕ → Section → List ℕ
 section_text targets m s =
     mark_line m s.counts ++ flat_map (λ r. refused_line r.0 r.1) s.refused
-    ++ flat_map (λ r. reading_lines m r.0 (targets_of r.0 targets) r.1) (zip (areas_of targets) s.readings)
+    ++ flat_map (λ r. reading_lines m r.0 (targets_of r.0 targets) r.1)
+    (zip (areas_of targets) s.readings)
 
 abbrev pub section_texts : List TargetSite → ℕ → List Section → List ℕ
 section_texts targets m [] = []
@@ -105,4 +118,5 @@ totals_of sections = record {
 -- the output: the sections of all marks, the length of the tail and the totals
 abbrev pub output_text : List TargetSite → List Section → ℕ → List ℕ
 output_text targets sections tail =
-    section_texts targets 1 sections ++ tail_line tail ++ totals_line (length sections) (totals_of sections)
+    section_texts targets 1 sections ++ tail_line tail
+    ++ totals_line (length sections) (totals_of sections)

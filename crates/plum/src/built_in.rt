@@ -50,7 +50,8 @@ pub fn built_in_setup() -> Setup
 
 /// One station of code 1 and one target `t1` in the area `a`, both at (0, 0) and without factors.
 pub fn built_in_sites(alloc: Global) -> Result<Sites, NoMemory>
-    ensures { IfOk result (λ sites. (sites.stations ≡ built_in_stations) × (sites.targets ≡ built_in_targets)) }
+    ensures { IfOk result (λ sites. (sites.stations ≡ built_in_stations)
+        × (sites.targets ≡ built_in_targets)) }
 {
     let at = Point { x: 0, y: 0 };
     let factor = Tenths(0);

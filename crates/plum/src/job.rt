@@ -29,8 +29,15 @@ fn is_path(word: &str) -> bool
 
 /// What the words ask for, or none where they are not of the grammar.
 pub fn read_words(words: &[String]) -> Option<Replay<'_>>
-    ensures { MatchOption result (job_of (map string_bytes words.now) ≡ None) (λ r. job_of (map string_bytes words.now)
-        ≡ Some (record { setup = r.setup.now; stations = r.stations.now; targets = r.targets.now; capture = r.capture.now; journal = r.journal.now })) }
+    ensures { MatchOption result (job_of (map string_bytes words.now) ≡ None)
+        (λ r. job_of (map string_bytes words.now)
+        ≡ Some (record {
+          setup = r.setup.now;
+          stations = r.stations.now;
+          targets = r.targets.now;
+          capture = r.capture.now;
+          journal = r.journal.now;
+        })) }
 {
     let [command, setup, stations, targets, capture, journal] = words else {
         return None;
@@ -55,7 +62,8 @@ pub fn read_words(words: &[String]) -> Option<Replay<'_>>
     }
 }
 
-/// The paths that the words name, each empty where it is not used or the words are not of the grammar.
+/// The paths that the words name, each empty where it is not used or the words are not of the
+/// grammar.
 pub fn paths_of(alloc: Global, words: &[String]) -> Result<Paths, NoMemory>
     ensures { IfOk result (λ paths. paths ≡ paths_in (job_of (map string_bytes words.now))) }
 {

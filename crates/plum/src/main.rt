@@ -1,4 +1,7 @@
 //! plum: an earthquake early warning centre that replays captures.
+//!
+//! It owns the words, the statuses, and the two texts of a replay. It promises `run`. It must not
+//! know how a record is spelled, how a packet is judged, or how a value is worked out.
 #![tactic(auto)]
 
 mod built_in;
@@ -7,7 +10,9 @@ mod packets;
 mod replay;
 mod run;
 mod status;
+mod stop;
 mod text;
+mod texts;
 
 pub use job::paths_of;
 use plum_base::NoMemory;
@@ -19,10 +24,8 @@ use std::io::{ErrorKind, Write};
 use std::process::ExitCode;
 pub use text::counts::counts_add_up;
 
-#[cfg(test)]
-mod tests;
-
-/// Runs the words of the command line over files and standard output. Words that are no text are not of the grammar.
+/// Does what the words of the command line ask for over files and standard output. Words that are
+/// no text are not of the grammar.
 fn start(rt: &HostRuntime) -> Result<Status, NoMemory> {
     let alloc = rt.alloc();
     let args = match env::args(rt) {

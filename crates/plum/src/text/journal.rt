@@ -18,7 +18,7 @@ fn code_of_station(stations: &[StationSite], station: StationNo) -> u16
 }
 
 /// The lines of the entries of segment 1, in order.
-pub fn journal_text(
+pub fn entry_lines(
     alloc: Global,
     stations: &[StationSite],
     history: &[Entry],

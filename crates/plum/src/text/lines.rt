@@ -1,7 +1,8 @@
 //! The lines of the journal and of the output.
 
 ghost use Rattle.std.specs.Prelude.{◌≡◌, ◌++◌, OnOk};
-ghost use Rattle.plum.specs.Lines.{entry_line, mark_line, reading_line, answer_line, tail_line, totals_line, counts_line};
+ghost use Rattle.plum.specs.Lines.{entry_line, mark_line, reading_line, answer_line, tail_line};
+ghost use Rattle.plum.specs.Lines.{totals_line, counts_line};
 
 use crate::text::write::{Field, put_line};
 use plum_base::{Bytes, Entry, Name, NoMemory, Tenths};
@@ -29,7 +30,8 @@ pub fn put_entry(
     code: u16,
     entry: &Entry,
 ) -> Result<(), NoMemory>
-    ensures { OnOk result (out.new ≡ out.old ++ entry_line n segment code entry.now.key entry.now.fresh entry.now.value) }
+    ensures { OnOk result (out.new ≡ out.old
+        ++ entry_line n segment code entry.now.key entry.now.fresh entry.now.value) }
 {
     let run: &[u8] = if entry.fresh { b"F" } else { b"C" };
     let list = [

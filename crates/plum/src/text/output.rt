@@ -38,7 +38,8 @@ fn put_area(
     put_answers(out, m, targets, reading.answers.as_slice())
 }
 
-/// The output of a capture of one segment in which no body was refused. All targets are of the one area.
+/// The output of a capture of one segment in which no body was refused. All targets are of the one
+/// area.
 pub fn output_text(
     alloc: Global,
     area: &Name,
@@ -49,7 +50,8 @@ pub fn output_text(
 ) -> Result<Bytes, NoMemory>
     requires area { areas_of targets.now ≡ area.now ∷ [] }
     requires whole { targets_of area.now targets.now ≡ targets.now }
-    ensures { IfOk result (λ text. text ≡ output_text targets.now (one_area counts.now reading.now ∷ []) tail) }
+    ensures { IfOk result (λ text. text
+        ≡ output_text targets.now (one_area counts.now reading.now ∷ []) tail) }
 {
     let mut text = Bytes::new(alloc)?;
     put_mark(&mut text, 1, counts)?;

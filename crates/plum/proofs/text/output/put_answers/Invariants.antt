@@ -5,4 +5,5 @@ use Rattle.plum.proofs.text.output.put_answers.Given as goal
 -- the lines so far and those of what is left are all
 abbrev pub invariant-loop-target : goal.invariant-loop-target
 invariant-loop-target l =
-    l.out ++ answer_lines l.m l.target-iterator.a.rest.now l.target-iterator.b.rest.now ≡ l.fn.out ++ answer_lines l.m l.targets l.answers
+    l.out ++ answer_lines l.m l.target-iterator.a.rest.now l.target-iterator.b.rest.now ≡ l.fn.out
+    ++ answer_lines l.m l.targets l.answers
