@@ -1,0 +1,58 @@
+//! The setup of the worked rows, and waves of equal samples.
+
+ghost use Rattle.std.specs.Prelude.{◌≡◌, ◌≤◌, IfOk};
+ghost use Rattle.plum_base.specs.Setup.{IsGain};
+ghost use Rattle.plum_engine.specs.Engine.{pass_through};
+
+use arrayvec::ArrayVec;
+use plum_base::{
+    Cascade, Class, Gain, Levels, NoMemory, Rules, Sample, Setup, Stage, Tenths, Wave,
+};
+use std::alloc::Global;
+use std::test::Fail;
+
+/// The gain and the thresholds of the worked rows: 2.0 from the amplitude 0 on, 2.1 from 10, 2.2
+/// from 20 and 2.3 from 30.
+pub const GAIN: Gain = Gain { g: 1, h: 0 };
+
+pub const THRESHOLDS: [u64; 4] = [0, 100, 400, 900];
+
+/// A setup whose cascade passes its input through, and whose level 0 stands for 2.0.
+pub fn setup_of(gain: Gain, thresholds: &[u64], lanes: u16, queue: u32) -> Result<Setup, Fail>
+    requires gain { IsGain gain.g gain.h }
+    requires lanes { (1 ≤ lanes) × (lanes ≤ 16) }
+    requires queue { (1 ≤ queue) × (queue ≤ 65536) }
+    ensures { IfOk result (λ setup. setup.cascade ≡ pass_through) }
+{
+    let mut stages = ArrayVec::new();
+    stages.push(Stage {
+        b0: 2,
+        q: 1,
+        ..Stage::default()
+    });
+    let mut table = ArrayVec::new();
+    table.try_extend_from_slice(thresholds)?;
+    Ok(Setup {
+        cascade: Cascade::new(stages).ok().ok_or("a stage in range")?,
+        gain,
+        levels: Levels::new(table, Tenths(20)).ok().ok_or("a lawful table")?,
+        rules: Rules {
+            raise: Class::C4,
+            cancel: Class::C3,
+            calm: 2,
+        },
+        lanes,
+        queue,
+    })
+}
+
+/// So many equal samples.
+pub fn equal_samples(alloc: Global, count: u16, sample: Sample) -> Result<Wave, NoMemory>
+    requires { count ≤ 6000 }
+{
+    let mut wave = Wave::with_capacity(alloc, count as usize)?;
+    for _ in 0..count {
+        wave.push(sample)?;
+    }
+    Ok(wave)
+}
