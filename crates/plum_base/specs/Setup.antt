@@ -23,3 +23,9 @@ IsGain g h = (1 ≤ g) × (g ≤ 2 ^ 31) × (h ≤ 31)
 
 abbrev pub AreRules : Class → Class → ℕ → Type 0
 AreRules raise cancel calm = (rank_of cancel ≤ rank_of raise) × (1 ≤ calm) × (calm ≤ 1000)
+
+abbrev pub IsLaneCount : ℕ → Type 0
+IsLaneCount lanes = (1 ≤ lanes) × (lanes ≤ 16)
+
+abbrev pub IsQueueBound : ℕ → Type 0
+IsQueueBound queue = (1 ≤ queue) × (queue ≤ 65536)

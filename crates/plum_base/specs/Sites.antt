@@ -2,6 +2,7 @@
 use Rattle.std.specs.Prelude.{◌≡◌, ◌≢◌, ℕ, ℤ, not, ◌≤◌, pos, ◌≤ℤ◌, List, [], ◌∷◌, Some, length, map}
 use Rattle.std.specs.Prelude.{filter, slice_get, nat_eq, All, AllPairs, IsSomeAnd}
 use Rattle.std.specs.Cmp.Lexicographic.{pointwise}
+use Rattle.std.specs.Str.{bytes_eq}
 use Rattle.plum_base.specs.declared.numbers.AreaNo.{AreaNo}
 use Rattle.plum_base.specs.declared.numbers.Point.{Point}
 use Rattle.plum_base.specs.declared.sites.StationSite.{StationSite}
@@ -27,9 +28,13 @@ pub record SitesView : Type 0 where
   pub stations : List StationSite
   pub targets : List TargetSite
 
--- on the grid: from 0 to its end, in metres, each way
+-- on the grid: from 0 to its end, in metres
+abbrev pub IsCoordinate : ℤ → Type 0
+IsCoordinate c = (pos 0 ≤ℤ c) × (c ≤ℤ GRID_END)
+
+-- on the grid each way
 abbrev pub IsPlace : Point → Type 0
-IsPlace p = (pos 0 ≤ℤ p.x) × (p.x ≤ℤ GRID_END) × (pos 0 ≤ℤ p.y) × (p.y ≤ℤ GRID_END)
+IsPlace p = IsCoordinate p.x × IsCoordinate p.y
 
 -- each member once, where it stands first
 abbrev pub first_appearances : List (List ℕ) → List (List ℕ)
@@ -40,20 +45,34 @@ first_appearances (x ∷ xs) = x ∷ filter (λ y. not (pointwise nat_eq x y)) (
 abbrev pub areas_of : List TargetSite → List (List ℕ)
 areas_of targets = first_appearances (map (λ t. t.area) targets)
 
-pub record AreLawful (stations : List StationSite) (targets : List TargetSite) : Type 0 where
-  pub few_stations : length stations ≤ MOST_STATIONS
-  pub few_targets : length targets ≤ MOST_TARGETS
-  pub few_areas : length (areas_of targets) ≤ MOST_AREAS
-  pub station_places : All (λ s. IsPlace s.at) stations
-  pub station_factors : All (λ s. IsFactor s.factor) stations
-  pub target_places : All (λ t. IsPlace t.at) targets
-  pub target_factors : All (λ t. IsFactor t.factor) targets
+-- the targets of an area, in file order
+abbrev pub targets_of : List ℕ → List TargetSite → List TargetSite
+targets_of area targets = filter (λ t. bytes_eq t.area area) targets
+
+-- Stations: not too many, each on the grid and with a factor in its range, no two of one code.
+pub record AreStations (stations : List StationSite) : Type 0 where
+  pub few : length stations ≤ MOST_STATIONS
+  pub in_range : All (λ s. IsPlace s.at × IsFactor s.factor) stations
   pub codes : AllPairs (λ a b. a.code ≢ b.code) stations
+
+-- Targets: not too many, of not too many areas, each on the grid and with a factor in its range, no
+-- two of one name.
+pub record AreTargets (targets : List TargetSite) : Type 0 where
+  pub few : length targets ≤ MOST_TARGETS
+  pub in_range : All (λ t. IsPlace t.at × IsFactor t.factor) targets
   pub names : AllPairs (λ a b. a.name ≢ b.name) targets
+  pub few_areas : length (areas_of targets) ≤ MOST_AREAS
+
+abbrev pub AreLawful : List StationSite → List TargetSite → Type 0
+AreLawful stations targets = AreStations stations × AreTargets targets
 
 -- the n-th station, from 0, has this code
 abbrev pub HasCode : List StationSite → ℕ → ℕ → Type 0
 HasCode stations n code = IsSomeAnd (slice_get stations n) (λ s. s.code ≡ code)
+
+-- No station has this code.
+abbrev pub HasNoCode : List StationSite → ℕ → Type 0
+HasNoCode stations code = All (λ s. s.code ≢ code) stations
 
 -- the numbers, target by target, are those of the targets' areas
 abbrev pub AreNumbered : List TargetSite → List AreaNo → Type 0

@@ -45,6 +45,17 @@ impl Name {
         Some(Name { bytes: copy })
     }
 
+    /// An equal name.
+    pub fn copy(&self) -> Name
+        ensures { result ≡ self.now }
+    {
+        let Some(copy) = Name::read(self.as_slice()) else {
+            // The bytes of a name are one.
+            unreachable!()
+        };
+        copy
+    }
+
     pub fn as_slice(&self) -> &[u8]
         ensures value { result.now ≡ self.now }
         ensures name { IsName self.now }

@@ -1,4 +1,4 @@
-//! The classes of the JMA scale, and the rules of alerts.
+//! The classes of the JMA scale, alerts, and the rules that make them.
 
 /// A class of the JMA scale, from the weakest.
 #[derive(Clone, Copy, Debug, PartialEq, Eq, PartialOrd, Ord)]
@@ -21,4 +21,15 @@ pub struct Rules {
     pub raise: Class,
     pub cancel: Class,
     pub calm: u16,
+}
+
+/// What a desk tells of its area.
+#[derive(Clone, Copy, Debug, PartialEq, Eq)]
+pub enum Alert {
+    /// An alert stands from now on, at this class.
+    Raise(Class),
+    /// The alert that stands rises to this class.
+    Upgrade(Class),
+    /// No alert stands from now on.
+    Cancel,
 }

@@ -1,7 +1,6 @@
 //! The setup of a centre.
 
-ghost use Rattle.std.specs.Prelude.{◌≤◌};
-ghost use Rattle.plum_base.specs.Setup.{IsGain, AreRules};
+ghost use Rattle.plum_base.specs.Setup.{IsGain, AreRules, IsLaneCount, IsQueueBound};
 
 use crate::cascade::Cascade;
 use crate::levels::Levels;
@@ -27,6 +26,6 @@ pub struct Setup {
     pub queue: u32,
     pub ghost gain_in_range: { IsGain gain.g gain.h },
     pub ghost rules_in_range: { AreRules rules.raise rules.cancel rules.calm },
-    pub ghost lanes_in_range: { (1 ≤ lanes) × (lanes ≤ 16) },
-    pub ghost queue_in_range: { (1 ≤ queue) × (queue ≤ 65536) },
+    pub ghost lanes_in_range: { IsLaneCount lanes },
+    pub ghost queue_in_range: { IsQueueBound queue },
 }

@@ -4,7 +4,8 @@ ghost use Rattle.std.specs.Prelude.{◌≡◌, ◌≢◌, ◌↔◌, ◌<◌, �
 ghost use Rattle.std.specs.Prelude.{IsTrue, IfOk, Some, IfSome, IfNone, IsSomeAnd};
 ghost use Rattle.std.specs.List.{HoldsAt};
 ghost use Rattle.plum_base.specs.Levels.{IsFactor};
-ghost use Rattle.plum_base.specs.Sites.{IsPlace, areas_of, AreNumbered, AreLawful, HasCode};
+ghost use Rattle.plum_base.specs.Sites.{IsPlace, areas_of, AreNumbered, AreStations, AreTargets};
+ghost use Rattle.plum_base.specs.Sites.{AreLawful, HasCode, HasNoCode};
 
 use crate::levels::is_factor;
 use crate::memory::NoMemory;
@@ -92,7 +93,7 @@ impl Sites {
     /// The station with that code.
     pub fn find(&self, code: u16) -> Option<StationNo>
         ensures found { IfSome result (λ n. HasCode self.now.stations n.0 code) }
-        ensures none { IfNone result (All (λ s. s.code ≢ code) self.now.stations) }
+        ensures none { IfNone result (HasNoCode self.now.stations code) }
     {
         let position = self.stations.iter().position(|s| s.code == code)?;
         Some(StationNo(position as u16))
@@ -124,7 +125,7 @@ impl Sites {
         requires { area.0 < length (areas_of self.now.targets) }
         ensures { slice_get (areas_of self.now.targets) area.0 ≡ Some result }
     {
-        copy_of(&self.areas[area.0 as usize])
+        self.areas[area.0 as usize].copy()
     }
 
     /// The area of a target.
@@ -135,15 +136,6 @@ impl Sites {
     {
         self.numbers[target.0 as usize]
     }
-}
-
-fn copy_of(name: &Name) -> Name
-    ensures { result ≡ name.now }
-{
-    let Some(copy) = Name::read(name.as_slice()) else {
-        unreachable!()
-    };
-    copy
 }
 
 fn is_among(areas: &[Name], area: &Name) -> bool
@@ -159,7 +151,7 @@ fn areas_in(alloc: Global, targets: &[TargetSite]) -> Result<Vec<Name>, NoMemory
     let mut areas = Vec::new(alloc);
     for target in targets {
         if !is_among(areas.as_slice(), &target.area) {
-            areas.push(copy_of(&target.area))?;
+            areas.push(target.area.copy())?;
         }
     }
     Ok(areas)
@@ -283,9 +275,7 @@ fn area_count(targets: &[TargetSite]) -> usize
 }
 
 fn are_stations_lawful(stations: &[StationSite]) -> bool
-    ensures { IsTrue result ↔ (length stations.now ≤ MOST_STATIONS)
-        × All (λ s. IsPlace s.at × IsFactor s.factor) stations.now
-        × AllPairs (λ a b. a.code ≢ b.code) stations.now }
+    ensures { IsTrue result ↔ AreStations stations.now }
 {
     stations.len() <= MOST_STATIONS
         && are_stations_in_range(stations)
@@ -293,10 +283,7 @@ fn are_stations_lawful(stations: &[StationSite]) -> bool
 }
 
 fn are_targets_lawful(targets: &[TargetSite]) -> bool
-    ensures { IsTrue result ↔ (length targets.now ≤ MOST_TARGETS)
-        × All (λ t. IsPlace t.at × IsFactor t.factor) targets.now
-        × AllPairs (λ a b. a.name ≢ b.name) targets.now
-        × (length (areas_of targets.now) ≤ MOST_AREAS) }
+    ensures { IsTrue result ↔ AreTargets targets.now }
 {
     targets.len() <= MOST_TARGETS
         && are_targets_in_range(targets)

@@ -21,7 +21,7 @@ loop-target-preserved c =
             more,
             w.areas-is,
             w.in_ok-push.ensures.items,
-            w.copy_of.ensures,
+            w.copy.ensures,
             c.loop-target.invariant,
           )
       | else-not-is_among w ↦
