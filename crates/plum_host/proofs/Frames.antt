@@ -1,9 +1,10 @@
--- Frames: two steps join.
+-- What steps over a host leave alone and count: two steps join.
 use Rattle.std.proofs.Common.{◌∙◌}
 use Rattle.plum_host.specs.declared.host.In.{In}
 use Rattle.plum_host.specs.declared.host.To.{To}
 use Rattle.plum_host.specs.Told.{HostView}
 use Rattle.plum_host.specs.Frames.{OnlyReads, OnlyWrites}
+use Rattle.plum_host.specs.Counting.{CountsNothing}
 
 -- one read after another
 pub OnlyReads-join : {file : In} {before between after : HostView}
@@ -23,4 +24,12 @@ OnlyWrites-join first second = record {
       second.other_output other differs ∙ first.other_output other differs;
   inputs = λ input. second.inputs input ∙ first.inputs input;
   read_faults = second.read_faults ∙ first.read_faults;
+}
+
+-- no fault, and then none
+pub CountsNothing-join : {before between after : HostView}
+    → CountsNothing before between → CountsNothing between after → CountsNothing before after
+CountsNothing-join first second = record {
+  reads = second.reads ∙ first.reads;
+  writes = second.writes ∙ first.writes;
 }

@@ -13,7 +13,7 @@ pub record HasPut (held after : Option (List ℕ)) (bytes rest : List ℕ) : Typ
   pub joined : front ++ rest ≡ bytes
 
 -- one part after another
-appends-more : (held between after : Option (List ℕ)) (front part : List ℕ)
+pub appends-more : (held between after : Option (List ℕ)) (front part : List ℕ)
     → Appends held between front → Appends between after part → Appends held after (front ++ part)
 appends-more None between after front part first second = tt
 appends-more (Some bytes) between after front part first second =
