@@ -30,7 +30,7 @@ module _ (station : ℕ) (ps : List Packet) (p : Packet) where
   -- where it is the station's own
   module _ (own : (p.station.0 == station) ≡ true) where
     -- It joins the station's packets.
-    of_station-own : of_station station (ps ++ p ∷ []) ≡ of_station station ps ++ p ∷ []
+    pub of_station-own : of_station station (ps ++ p ∷ []) ≡ of_station station ps ++ p ∷ []
     of_station-own = of_station-push ∙ rw own
 
     -- The greatest key is the greater of the one before and its own.
@@ -55,7 +55,7 @@ module _ (station : ℕ) (ps : List Packet) (p : Packet) where
   -- where it is another's
   module _ (other : (p.station.0 == station) ≡ false) where
     -- The station's packets stay.
-    of_station-other : of_station station (ps ++ p ∷ []) ≡ of_station station ps
+    pub of_station-other : of_station station (ps ++ p ∷ []) ≡ of_station station ps
     of_station-other = of_station-push ∙ rw other (append-nil (of_station station ps))
 
     -- So does their greatest key.
