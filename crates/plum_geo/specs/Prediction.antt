@@ -26,10 +26,17 @@ abbrev pub none_or_on_scale : Option Tenths → Bool
 none_or_on_scale None = true
 none_or_on_scale (Some t) = int_le (neg_ℤ (pos 100)) t.0 && int_le t.0 (pos 227)
 
+-- the entry is of this station, and its value is none or on the scale
+abbrev pub is_shown_by : ℕ → Entry → Bool
+is_shown_by station e = (e.station.0 == station) && none_or_on_scale e.value
+
 -- the station's entries whose value is none or on the scale
 abbrev pub shown_entries : List Entry → ℕ → List Entry
-shown_entries history station =
-    filter (λ e. (e.station.0 == station) && none_or_on_scale e.value) history
+shown_entries history station = filter (λ e. is_shown_by station e) history
+
+-- the value of the last of these entries; none where there is no entry
+abbrev pub last_value : List Entry → Option Tenths
+last_value entries = option_and_then (λ e. e.value) (last_or None entries)
 
 -- What a station shows in a history, where there are so many stations: the value of its last entry
 -- there; none where it has no entry or is not listed. An entry whose value is off the scale is
@@ -37,7 +44,7 @@ shown_entries history station =
 abbrev pub shown : ℕ → List Entry → ℕ → Option Tenths
 shown stations history station =
     if nat_lt station stations
-    then option_and_then (λ e. e.value) (last_or None (shown_entries history station))
+    then last_value (shown_entries history station)
     else None
 
 -- the square of the distance of two places, in square metres
@@ -77,14 +84,18 @@ pub record Reports (stations : List StationSite) (values : ℕ → Option Tenths
 abbrev pub corrected : StationSite → Tenths → ℤ
 corrected site value = value.0 -ℤ site.factor.0
 
+-- One of those that report shows a value that is this with its factor taken away.
+abbrev pub IsSaid : List StationSite → (ℕ → Option Tenths) → Point → Tenths → Type 0
+IsSaid stations values place said = (n : ℕ) × (value : Tenths)
+    × (r : Reports stations values place n value) × (said.0 ≡ corrected r.site value)
+
 -- The best at a place is none exactly where no near station reports. Any other is a value less
 -- factor of one of those that report, and none of theirs is greater.
 abbrev pub IsBest : List StationSite → (ℕ → Option Tenths) → Point → Option Tenths → Type 0
 IsBest stations values place None = (n : ℕ) (value : Tenths)
     → ¬ Reports stations values place n value
 IsBest stations values place (Some best) =
-    ((n : ℕ) × (value : Tenths) × (r : Reports stations values place n value)
-    × (best.0 ≡ corrected r.site value))
+    IsSaid stations values place best
     × ((n : ℕ) (value : Tenths) (r : Reports stations values place n value)
     → corrected r.site value ≤ℤ best.0)
 

@@ -1,8 +1,7 @@
 //! Which places are near each other.
 
-ghost use Rattle.std.specs.Prelude.{◌≡◌, ◌↔◌, ◌^◌, ◌≤◌, IsTrue, pos, nat_abs, ◌-ℤ◌, ◌≤ℤ◌};
-ghost use Rattle.plum_base.specs.Sites.{GRID_END};
-ghost use Rattle.plum_base.specs.Sites.{IsPlace};
+ghost use Rattle.std.specs.Prelude.{◌≡◌, ◌↔◌, ◌^◌, ◌≤◌, IsTrue, nat_abs, ◌-ℤ◌};
+ghost use Rattle.plum_base.specs.Sites.{IsCoordinate, IsPlace};
 ghost use Rattle.plum_geo.specs.Prediction.{IsNear};
 
 use plum_base::Point;
@@ -12,10 +11,8 @@ pub const RADIUS: u64 = 30_000;
 
 /// How far two coordinates of the grid are apart, in metres.
 fn apart(a: i32, b: i32) -> u64
-    requires a_low { pos 0 ≤ℤ a }
-    requires a_high { a ≤ℤ GRID_END }
-    requires b_low { pos 0 ≤ℤ b }
-    requires b_high { b ≤ℤ GRID_END }
+    requires a_on_grid { IsCoordinate a }
+    requires b_on_grid { IsCoordinate b }
     ensures value { result ≡ nat_abs (a -ℤ b) }
     ensures bound { result ≤ 2 ^ 31 }
 {
