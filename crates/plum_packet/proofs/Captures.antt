@@ -59,21 +59,29 @@ HasCapture bytes = (bodies : List (List ℕ)) × (rest : List ℕ) × IsCapture 
 before : (bytes more body : List ℕ) → bytes ≡ record_of body ++ more → IsBody body
     → HasCapture more → HasCapture bytes
 before bytes more body is fits (bodies, rest, capture) =
-    let spelled = capture.spelled in
+    let spelled = capture.records.spelled in
     let joined = sym (append_assoc (record_of body) (flat_map record_of bodies) rest) in (
       body ∷ bodies,
       rest,
       record {
-        spelled = is ∙ ap (λ (l : List ℕ). record_of body ++ l) spelled ∙ joined;
-        lengths = (fits, capture.lengths);
+        records = record {
+          spelled = is ∙ ap (λ (l : List ℕ). record_of body ++ l) spelled ∙ joined;
+          lengths = (fits, capture.records.lengths);
+        };
         no_more = capture.no_more;
       },
     )
 
 -- bytes that start with no record are a tail
 tail_alone : (bytes : List ℕ) → length bytes < record_end bytes → HasCapture bytes
-tail_alone bytes short =
-    ([], bytes, record { spelled = refl; lengths = tt; no_more = no_record bytes short })
+tail_alone bytes short = (
+  [],
+  bytes,
+  record {
+    records = record { spelled = refl; lengths = tt };
+    no_more = no_record bytes short;
+  },
+)
 
 -- at most n bytes are a capture
 capture_within : (n : ℕ) (bytes : List ℕ) → length bytes ≤ n → AreBytes bytes → HasCapture bytes
@@ -98,20 +106,23 @@ none_or_one : (bytes rest body : List ℕ) (bodies : List (List ℕ)) (other : L
 none_or_one bytes rest body bodies other none one =
     let more = flat_map record_of bodies ++ other in
     let is : rest ≡ record_of body ++ more =
-    sym none.spelled ∙ one.spelled
+    sym none.records.spelled ∙ one.records.spelled
     ∙ append_assoc (record_of body) (flat_map record_of bodies) other in
-    none.no_more (body, more, one.lengths.0, is)
+    none.no_more (body, more, one.records.lengths.0, is)
 
 -- a capture without its first record
 behind : (bytes body : List ℕ) (bodies : List (List ℕ)) (rest : List ℕ)
     → IsCapture bytes (body ∷ bodies) rest
     → IsCapture (flat_map record_of bodies ++ rest) bodies rest
 behind bytes body bodies rest capture =
-    record { spelled = refl; lengths = capture.lengths.1; no_more = capture.no_more }
+    record {
+      records = record { spelled = refl; lengths = capture.records.lengths.1 };
+      no_more = capture.no_more;
+    }
 
 -- two captures of the same bytes are one
 pub only : OneCapture
-only bytes [] [] rest other left right = (refl, sym left.spelled ∙ right.spelled)
+only bytes [] [] rest other left right = (refl, sym left.records.spelled ∙ right.records.spelled)
 only bytes [] (b ∷ others) rest other left right =
     absurd (none_or_one bytes rest b others other left right)
 only bytes (a ∷ some) [] rest other left right =
@@ -120,9 +131,9 @@ only bytes (a ∷ some) (b ∷ others) rest other left right =
     let more = flat_map record_of some ++ rest in
     let joined : record_of a ++ more ≡ record_of b ++ (flat_map record_of others ++ other) =
     sym (append_assoc (record_of a) (flat_map record_of some) rest)
-    ∙ sym left.spelled ∙ right.spelled
+    ∙ sym left.records.spelled ∙ right.records.spelled
     ∙ append_assoc (record_of b) (flat_map record_of others) other in
-    let peeled = same_record a b _ _ left.lengths.0 right.lengths.0 joined in
+    let peeled = same_record a b _ _ left.records.lengths.0 right.records.lengths.0 joined in
     let second : IsCapture more others other =
     subst (λ l. IsCapture l others other) (sym peeled.1) (behind bytes b others other right) in
     let again = only more some others rest other (behind bytes a some rest left) second in
@@ -155,7 +166,7 @@ fronts (a ∷ some) (b ∷ others) more rest left right e =
 pub tail : TailIsShort
 tail bytes bodies rest are capture =
     let bytes_of_tail : AreBytes rest =
-    AreBytes-append (flat_map record_of bodies) rest (subst AreBytes capture.spelled are) in
+    AreBytes-append (flat_map record_of bodies) rest (subst AreBytes capture.records.spelled are) in
     elim (cases_lt (length rest) (record_end rest)) [
       | inl short ↦ omega (arith, byte rest 0 bytes_of_tail, byte rest 1 bytes_of_tail)
       | inr fits ↦

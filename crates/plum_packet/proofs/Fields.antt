@@ -1,10 +1,10 @@
 -- What the numbers of a body are, as the code makes them.
-use Rattle.std.proofs.Common.{◌≡◌, ◌≢◌, ℕ, ◌-◌, zero, suc, List, [], ◌∷◌, length, take, drop}
-use Rattle.std.proofs.Common.{get_or, get_or-drop, add-zero, All, ap, ◌∙◌, arith}
+use Rattle.std.proofs.Common.{◌≡◌, ℕ, ◌-◌, zero, suc, List, [], ◌∷◌, length, take, drop}
+use Rattle.std.proofs.Common.{get_or, get_or-drop, add-zero, ap, ◌∙◌, arith}
 use Rattle.std.proofs.lemmas.List.{take_rest}
 use Rattle.byteorder.specs.Endian.{big_number}
 use Rattle.plum_base.specs.declared.sites.StationSite.{StationSite}
-use Rattle.plum_base.specs.Sites.{HasCode}
+use Rattle.plum_base.specs.Sites.{HasCode, HasNoCode}
 use Rattle.plum_packet.specs.Body.{number_at}
 
 -- a number is made of the rest of the bytes
@@ -20,7 +20,7 @@ byte_of offset body =
 
 -- a station of that code is listed
 pub listed : (stations : List StationSite) (n code found : ℕ) → found ≡ code
-    → HasCode stations n found → ¬ All (λ s. s.code ≢ code) stations
+    → HasCode stations n found → ¬ HasNoCode stations code
 listed [] n code found e h none = h
 listed (s ∷ rest) zero code found e h none = none 0 s (omega arith) (h ∙ e)
 listed (s ∷ rest) (suc n) code found e h none =

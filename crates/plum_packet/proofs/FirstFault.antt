@@ -8,6 +8,7 @@ use Rattle.plum_base.specs.declared.sites.StationSite.{StationSite}
 use Rattle.plum_base.specs.declared.packet.PacketFault.{PacketFault}
 use Rattle.plum_base.specs.declared.packet.PacketFault.TheVariants.{Short, Magic, Version, Flags}
 use Rattle.plum_base.specs.declared.packet.PacketFault.TheVariants.{Station, Count, Length}
+use Rattle.plum_base.specs.Sites.{HasNoCode}
 use Rattle.plum_packet.specs.Body.{HEADER, SAMPLE, MOST_SAMPLES}
 use Rattle.plum_packet.specs.Body.{Applies, order_of, IsFirstFault, HasNoFault, code_of, count_of}
 use Rattle.plum_packet.proofs.Fields.{byte_of}
@@ -95,11 +96,11 @@ module _ (stations : List StationSite) (body : List ℕ) (long : HEADER ≤ leng
         past_flags fault below a = past_version fault (omega arith) a
 
         -- its station is not listed
-        pub is_station : (code : ℕ) → code ≡ code_of body → All (λ s. s.code ≢ code) stations
+        pub is_station : (code : ℕ) → code ≡ code_of body → HasNoCode stations code
             → IsFirstFault stations body (Station code)
         is_station code e h = record { applies = (e, h); first = past_flags }
 
-        module _ (known : ¬ All (λ s. s.code ≢ code_of body) stations) where
+        module _ (known : ¬ HasNoCode stations (code_of body)) where
           -- its station is listed
           past_station : IsClearBefore stations body 6
           past_station (Station code) below a =

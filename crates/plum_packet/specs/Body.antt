@@ -1,7 +1,7 @@
 -- From a record's body to a packet (the project's own format, version 1). All numbers stand with
 -- the highest byte first.
 use Rattle.std.specs.Prelude.{◌≡◌, ◌≢◌, ℕ, ◌+◌, ◌*◌, ◌<◌, ◌⊎◌, ℤ, List, [], ◌∷◌, length, take, drop}
-use Rattle.std.specs.Prelude.{slice_get, Some, All}
+use Rattle.std.specs.Prelude.{slice_get, Some}
 use Rattle.byteorder.specs.Endian.{big_number, twos_complement}
 use Rattle.plum_base.specs.declared.sites.StationSite.{StationSite}
 use Rattle.plum_base.specs.declared.wave.Sample.{Sample}
@@ -9,7 +9,7 @@ use Rattle.plum_base.specs.declared.numbers.Key.{Key}
 use Rattle.plum_base.specs.declared.packet.Packet.{Packet}
 use Rattle.plum_base.specs.declared.packet.PacketFault.{PacketFault}
 use Rattle.plum_base.specs.declared.packet.PacketFault.TheVariants as faults
-use Rattle.plum_base.specs.Sites.{HasCode}
+use Rattle.plum_base.specs.Sites.{HasCode, HasNoCode}
 use Rattle.plum_packet.specs.declared.body.Head.{Head}
 
 -- how many bytes stand before the samples
@@ -68,7 +68,7 @@ Applies stations body faults.Magic = take 2 body ≢ 80 ∷ 76 ∷ []
 Applies stations body (faults.Version v) = (v ≡ version_of body) × (v ≢ 1)
 Applies stations body (faults.Flags f) = (f ≡ flags_of body) × (f ≢ 0)
 Applies stations body (faults.Station code) =
-    (code ≡ code_of body) × All (λ s. s.code ≢ code) stations
+    (code ≡ code_of body) × HasNoCode stations code
 Applies stations body (faults.Count n) = (n ≡ count_of body) × ((n ≡ 0) ⊎ (MOST_SAMPLES < n))
 Applies stations body (faults.Length expected found) =
     (expected ≡ HEADER + SAMPLE * count_of body) × (found ≡ length body) × (expected ≢ found)

@@ -32,11 +32,14 @@ abbrev pub HasRecord : List ℕ → Type 0
 HasRecord bytes =
     (body : List ℕ) × (more : List ℕ) × IsBody body × (bytes ≡ record_of body ++ more)
 
--- The bytes are the records of these bodies, in order, and a rest that does not start with a whole
--- record.
-pub record IsCapture (bytes : List ℕ) (bodies : List (List ℕ)) (rest : List ℕ) : Type 0 where
+-- The bytes are the records of these bodies, in order, and then a rest.
+pub record AreRecords (bytes : List ℕ) (bodies : List (List ℕ)) (rest : List ℕ) : Type 0 where
   pub spelled : bytes ≡ flat_map record_of bodies ++ rest
   pub lengths : AllByRecursion IsBody bodies
+
+-- They are that, and the rest does not start with a whole record.
+pub record IsCapture (bytes : List ℕ) (bodies : List (List ℕ)) (rest : List ℕ) : Type 0 where
+  pub records : AreRecords bytes bodies rest
   pub no_more : ¬ HasRecord rest
 
 -- each is a byte

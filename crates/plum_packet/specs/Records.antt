@@ -1,9 +1,8 @@
 -- How far a reader of records has come.
 use Rattle.std.specs.Prelude.{◌≡◌, ℕ, List, [], ◌∷◌, ◌++◌, length, Option, Some}
-use Rattle.std.specs.List.{flat_map, AllByRecursion}
 use Rattle.plum_packet.specs.declared.records.Progress.{Progress}
 use Rattle.plum_packet.specs.declared.records.Progress.TheVariants.{Open, Ended, Over}
-use Rattle.plum_packet.specs.Capture.{record_of, IsBody, IsCapture}
+use Rattle.plum_packet.specs.Capture.{AreRecords, IsCapture}
 
 -- A reader that gives at most `limit` records: how many it gave, the body of the last of them
 -- (empty before the first), the bytes that it took of what it has not given, and whether it has met
@@ -34,8 +33,7 @@ pub record StandsAt (capture : List ℕ) (bodies : List (List ℕ)) (reader : Re
     (left : Option (List ℕ)) : Type 0 where
   pub rest : List ℕ
   pub told : left ≡ Some rest
-  pub spelled : capture ≡ flat_map record_of bodies ++ (reader.ahead ++ rest)
-  pub lengths : AllByRecursion IsBody bodies
+  pub records : AreRecords capture bodies (reader.ahead ++ rest)
   pub count : reader.given ≡ length bodies
 
 -- A step of a reader, with what was left before and after it: one record more was given, and it is
