@@ -1,14 +1,13 @@
 -- The machine replies to events that name what exists.
-use Rattle.std.proofs.Common.{◌≡◌, ℕ, ◌<◌, ◌≤◌, ◌⊎◌, Bool, false, List, [], ◌∷◌, ◌++◌, length}
+use Rattle.std.proofs.Common.{◌≡◌, ℕ, ◌<◌, ◌≤◌, ◌⊎◌, false, List, [], ◌∷◌, ◌++◌, length}
 use Rattle.std.proofs.Common.{get_or, take, Option, Some, None, inl, inr, refl, sym, ap, subst}
-use Rattle.std.proofs.Common.{arith}
+use Rattle.std.proofs.Common.{true, ◌∙◌, arith}
 use lib.Signed.{≤ℤ_refl}
 use Rattle.std.proofs.lemmas.Bool.{cases_Bool, cases_eq, cases_lt, true≢false, leb-true, leb-false}
 use Rattle.std.proofs.lemmas.Int.{ints}
 use Rattle.std.proofs.lemmas.List.Elements.{All-head, All-tail}
 use Rattle.std.proofs.lemmas.Option.{slice_get-get_or}
-use Rattle.std.specs.List.{fold}
-use Rattle.std.specs.Prelude.{max, is_some, IsSomeAnd, ◌*◌, nat_le, int_le, if◌then◌else◌, All}
+use Rattle.std.specs.Prelude.{max, is_some, IsSomeAnd, ◌*◌, nat_le, int_le, All}
 use Rattle.plum_base.specs.declared.answers.Reading.{Reading}
 use Rattle.plum_base.specs.declared.entry.Entry.{Entry}
 use Rattle.plum_base.specs.declared.lane.Took.TheVariants as tooks
@@ -23,8 +22,8 @@ use Rattle.plum_base.specs.declared.sites.TargetSite.{TargetSite}
 use Rattle.plum_base.specs.Lane.{lane_of}
 use Rattle.plum_base.specs.Sites.{SitesView, areas_of}
 use Rattle.plum_seq.proofs.Pushes.{by_push}
-use Rattle.plum_seq.specs.Keys.{is_below, keys_of, is_above_all, is_kept, greater_key, greatest_key}
-use Rattle.plum_seq.specs.Laws.{GreatestIs}
+use Rattle.plum_seq.specs.Keys.{keys_of, is_above_all, is_kept, greatest_key}
+use Rattle.plum_seq.specs.Laws.{GreatestIs, NoneGreatest}
 use Rattle.plum_geo.specs.Prediction.{RADIUS}
 use Rattle.plum_geo.specs.Prediction.{shown, corrected, plus_factor, IsNear, is_near}
 use Rattle.plum_geo.specs.Prediction.{distance_squared, FindsNear, IsBest}
@@ -36,41 +35,37 @@ use Rattle.plum_core.specs.declared.event.Reply.TheVariants as replies
 use Rattle.plum_core.specs.Machine.{Lane, State, step, IsTakeReply, IsOfferReply, IsPopReply}
 use Rattle.plum_core.specs.Machine.{IsAppendReply, IsReadReply, IsLearnReply, IsReply, AreReplies}
 use Rattle.plum_core.specs.Machine.{NamesExist}
-use Rattle.plum_core.specs.Transcript.{targets_of, ArePredictions}
+use Rattle.plum_core.specs.Transcript.{ArePredictions}
+use Rattle.plum_base.specs.Sites.{targets_of}
 use Rattle.plum_core.proofs.Predictions.{IsCovered, SaysSome, SaysNone, IsBest-nil, IsBest-push}
 
 -- some reply of which this holds
 abbrev HasReply : (Reply → Type 0) → Type 0
 HasReply Is = (reply : Reply) × Is reply
 
--- the greatest of some key and more keys
-has_greatest : (greatest : Key) (keys : List Key)
-    → (key : Key) × (fold greater_key (Some greatest) keys ≡ Some key)
-has_greatest greatest [] = (greatest, refl)
-has_greatest greatest (key ∷ keys) =
-    let After : Bool → Type 0 = λ b. (last : Key)
-    × (fold greater_key (if b then Some key else Some greatest) keys ≡ Some last) in
-    elim (cases_Bool (is_below greatest key)) [
-      | inl above ↦ subst After (sym above) (has_greatest key keys)
-      | inr below ↦ subst After (sym below) (has_greatest greatest keys)
-    ]
-
 -- Where a key is not above all of these, there is a greatest of these.
-has_greatest_key : (keys : List Key) (key : Key) → is_above_all keys key ≡ false
+has_greatest_key : NoneGreatest → (keys : List Key) (key : Key) → is_above_all keys key ≡ false
     → (last : Key) × (greatest_key keys ≡ Some last)
-has_greatest_key [] key is = absurd (true≢false is)
-has_greatest_key (first ∷ keys) key is = has_greatest first keys
+has_greatest_key none_greatest keys key is =
+    elim (greatest_key keys) as (λ o. greatest_key keys ≡ o
+    → (last : Key) × (greatest_key keys ≡ Some last)) [
+      | None ↦ λ none.
+          let above : is_above_all keys key ≡ true =
+          ap (λ ks. is_above_all ks key) (none_greatest keys none) in
+          absurd (true≢false (sym above ∙ is))
+      | Some last ↦ λ some. (last, some)
+    ] refl
 
 -- a reply to a packet
-has_take_reply : GreatestIs → (lane : Lane) (p : Packet) (waiting : Option Entry)
+has_take_reply : GreatestIs → NoneGreatest → (lane : Lane) (p : Packet) (waiting : Option Entry)
     → lane.waiting ≡ waiting → HasReply (IsTakeReply lane p)
-has_take_reply greatest_is lane p (Some e) is = (replies.Held, ap is_some is)
-has_take_reply greatest_is lane p None is = elim (cases_Bool (is_kept lane.taken p)) [
+has_take_reply greatest_is none_greatest lane p (Some e) is = (replies.Held, ap is_some is)
+has_take_reply greatest_is none_greatest lane p None is = elim (cases_Bool (is_kept lane.taken p)) [
   | inl fresh ↦ (replies.Took tooks.Ready, (is, fresh))
   | inr repeat ↦
       let keys : List Key = keys_of p.station.0 lane.taken in
-      let found = has_greatest_key keys p.key repeat in
-      (replies.Took (tooks.Repeat found.0), (is, repeat, greatest_is keys found.0 found.1))
+      let found = has_greatest_key none_greatest keys p.key repeat in
+      (replies.Took (tooks.Repeat found.0), (is, (repeat, greatest_is keys found.0 found.1)))
 ]
 
 -- to an offer
@@ -186,13 +181,14 @@ has_read_reply finds sites s area below =
     let named = slice_get-get_or names area [] below in
     (replies.Read reading, (refl, subst Predicted (sym named) found.1))
 
-module _ (greatest_is : GreatestIs) (finds : FindsNear) (setup : Setup) (sites : SitesView) where
+module _ (greatest_is : GreatestIs) (none_greatest : NoneGreatest) (finds : FindsNear)
+    (setup : Setup) (sites : SitesView) where
   -- a reply to any event
   has_reply : (s : State) (event : Event) → NamesExist setup sites event
       → HasReply (IsReply setup sites s event)
   has_reply s (Take p) exist =
       let lane = s.lanes (lane_of setup.lanes p.station.0) in
-      has_take_reply greatest_is lane p lane.waiting refl
+      has_take_reply greatest_is none_greatest lane p lane.waiting refl
   has_reply s (Offer lane) exist =
       has_offer_reply setup s (s.lanes lane.0) (s.lanes lane.0).waiting refl
   has_reply s Pop exist = has_pop_reply s.queue

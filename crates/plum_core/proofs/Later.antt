@@ -20,7 +20,8 @@ use Rattle.plum_core.specs.declared.event.Reply.TheVariants as replies
 use Rattle.plum_core.specs.Laws.{Replied}
 use Rattle.plum_core.specs.Machine.{State, start, changed, lane_sends, lane_offers, gather, step}
 use Rattle.plum_core.specs.Machine.{state_after, IsReply, IsReadReply, AreReplies, IsReadAt}
-use Rattle.plum_core.specs.Transcript.{targets_of, ArePredictions}
+use Rattle.plum_core.specs.Transcript.{ArePredictions}
+use Rattle.plum_base.specs.Sites.{targets_of}
 use Rattle.plum_core.proofs.Changed.{at_each}
 
 -- No more is published than is appended, no more is appended than is gathered, and no session has

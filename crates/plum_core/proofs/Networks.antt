@@ -11,7 +11,8 @@ use Rattle.plum_seq.specs.Keys.{of_station}
 use Rattle.plum_core.specs.declared.network.Network.{Network}
 use Rattle.plum_core.specs.declared.station.Station.{Station}
 use Rattle.plum_core.specs.Station.{Stands, StandFor, given_more}
-use Rattle.plum_core.proofs.Stations.{Stands-same, of_station-push_other}
+use Rattle.plum_seq.proofs.Stations.{of_station-other}
+use Rattle.plum_core.proofs.Stations.{Stands-same}
 
 -- What was given to the stations is told by the own packets of each.
 pub StandFor-same : (network : Network) (setup : Setup) (given other : ℕ → List Packet)
@@ -32,7 +33,7 @@ of_station-more ps p s =
       | inl is ↦ ap (λ b. of_station s (if b then ps ++ p ∷ [] else ps)) is
       | inr is ↦
           ap (λ b. of_station s (if b then ps ++ p ∷ [] else ps)) is
-          ∙ sym (of_station-push_other s ps p is)
+          ∙ sym (of_station-other s ps p is)
     ]
 
 -- The packets of all stations, one more packet on.

@@ -28,7 +28,8 @@ use Rattle.plum_core.specs.declared.event.Reply.{Reply}
 use Rattle.plum_core.specs.declared.event.Reply.TheVariants as replies
 use Rattle.plum_core.specs.Machine.{Lane, State, step, IsTakeReply, IsOfferReply, IsPopReply}
 use Rattle.plum_core.specs.Machine.{IsAppendReply, IsReadReply, IsLearnReply, IsReply, AreReplies}
-use Rattle.plum_core.specs.Transcript.{targets_of, ArePredictions}
+use Rattle.plum_core.specs.Transcript.{ArePredictions}
+use Rattle.plum_base.specs.Sites.{targets_of}
 
 -- numbers, each at most the other
 both_ways : (a b : ℤ) → a ≤ℤ b → b ≤ℤ a → b ≡ a
@@ -96,16 +97,17 @@ module _ (one : OneGreatest) (lane : Lane) (p : Packet) where
       → (reply : Reply) → IsTakeReply lane p reply → reply ≡ replies.Took (tooks.Repeat last)
   take_repeat last first replies.Held is = absurd (some_none lane.waiting is first.0)
   take_repeat last first (replies.Took (tooks.Repeat other)) is =
-      let same : other ≡ last = one (keys_of p.station.0 lane.taken) other last is.2 first.2 in
+      let same : other ≡ last = one (keys_of p.station.0 lane.taken) other last is.1.1 first.1.1 in
       ap (λ k. replies.Took (tooks.Repeat k)) same
-  take_repeat last first (replies.Took tooks.Ready) is = absurd (false≢true (sym first.1 ∙ is.1))
+  take_repeat last first (replies.Took tooks.Ready) is = absurd (false≢true (sym first.1.0 ∙ is.1))
   take_repeat last first _ is = absurd is
 
   -- to a packet that is kept
   take_ready : IsTakeReply lane p (replies.Took tooks.Ready) → (reply : Reply)
       → IsTakeReply lane p reply → reply ≡ replies.Took tooks.Ready
   take_ready first replies.Held is = absurd (some_none lane.waiting is first.0)
-  take_ready first (replies.Took (tooks.Repeat other)) is = absurd (false≢true (sym is.1 ∙ first.1))
+  take_ready first (replies.Took (tooks.Repeat other)) is =
+      absurd (false≢true (sym is.1.0 ∙ first.1))
   take_ready first (replies.Took tooks.Ready) is = refl
   take_ready first _ is = absurd is
 

@@ -9,7 +9,7 @@ use Rattle.plum_base.specs.declared.numbers.Point.{Point}
 use Rattle.plum_base.specs.declared.numbers.Tenths.{Tenths}
 use Rattle.plum_base.specs.declared.sites.StationSite.{StationSite}
 use Rattle.plum_seq.proofs.Pushes.{slice_get_after}
-use Rattle.plum_geo.specs.Prediction.{corrected, IsNear, FindsNear, Reports, IsBest}
+use Rattle.plum_geo.specs.Prediction.{corrected, IsNear, FindsNear, Reports, IsSaid, IsBest}
 
 module _ {X : Type 0} where
   -- an element of a list is one of the longer list
@@ -52,11 +52,8 @@ IfSome-one P a b after one first second =
     elim one [ inl same ↦ subst Q (sym same) first | inr same ↦ subst Q (sym same) second ]
 
 module _ (values : ℕ → Option Tenths) (place : Point) where
-  -- One of the stations that report says it.
-  abbrev IsSaid : List StationSite → Tenths → Type 0
-  IsSaid stations t =
-      (n : ℕ) × (value : Tenths) × (r : Reports stations values place n value)
-      × (t.0 ≡ corrected r.site value)
+  abbrev SaidIn : List StationSite → Tenths → Type 0
+  SaidIn stations t = IsSaid stations values place t
 
   -- It reaches what each of those that report says.
   abbrev ReachesAll : List StationSite → Option Tenths → Type 0
@@ -66,7 +63,7 @@ module _ (values : ℕ → Option Tenths) (place : Point) where
 
   module _ (stations : List StationSite) where
     -- The best is said;
-    IsSaid-from : (o : Option Tenths) → IsBest stations values place o → IfSome o (IsSaid stations)
+    IsSaid-from : (o : Option Tenths) → IsBest stations values place o → IfSome o (SaidIn stations)
     IsSaid-from None is = tt
     IsSaid-from (Some t) is = is.0
 
@@ -76,7 +73,7 @@ module _ (values : ℕ → Option Tenths) (place : Point) where
     ReachesAll-from (Some t) is = is.1
 
     -- what is both is the best.
-    IsBest-from : (o : Option Tenths) → IfSome o (IsSaid stations) → ReachesAll stations o
+    IsBest-from : (o : Option Tenths) → IfSome o (SaidIn stations) → ReachesAll stations o
         → IsBest stations values place o
     IsBest-from None said all = all
     IsBest-from (Some t) said all = (said, all)
@@ -102,7 +99,7 @@ module _ (values : ℕ → Option Tenths) (place : Point) where
       longer = stations ++ site ∷ []
 
       -- what the stations so far say
-      IsSaid-before : (o : Option Tenths) → IfSome o (IsSaid stations) → IfSome o (IsSaid longer)
+      IsSaid-before : (o : Option Tenths) → IfSome o (SaidIn stations) → IfSome o (SaidIn longer)
       IsSaid-before None said = tt
       IsSaid-before (Some t) said =
           let n : ℕ = said.0 in
@@ -119,7 +116,7 @@ module _ (values : ℕ → Option Tenths) (place : Point) where
 
       -- what the next station says
       IsSaid-last : (o : Option Tenths) → SaysSome site (length stations) o
-          → IfSome o (IsSaid longer)
+          → IfSome o (SaidIn longer)
       IsSaid-last None says = tt
       IsSaid-last (Some t) says =
           let n : ℕ = length stations in
@@ -171,8 +168,8 @@ module _ (values : ℕ → Option Tenths) (place : Point) where
         -- The greater of the best so far and of what the next station says is the best.
         pub IsBest-push : (after ≡ before) ⊎ (after ≡ said) → IsBest longer values place after
         IsBest-push one =
-            let earlier : IfSome before (IsSaid longer) =
+            let earlier : IfSome before (SaidIn longer) =
             IsSaid-before before (IsSaid-from stations before best) in
             IsBest-from longer after
-            (IfSome-one (IsSaid longer) before said after one earlier (IsSaid-last said says))
+            (IfSome-one (SaidIn longer) before said after one earlier (IsSaid-last said says))
             ReachesAll-push

@@ -14,11 +14,12 @@ use Rattle.plum_seq.proofs.Pushes.{by_push}
 use Rattle.plum_seq.specs.Keys.{of_station, with_fresh}
 use Rattle.plum_engine.specs.Engine.{IsValueOf}
 use Rattle.plum_engine.specs.Level.{IsValue}
-use Rattle.plum_geo.specs.Prediction.{none_or_on_scale, shown_entries, shown}
+use Rattle.plum_geo.specs.Prediction.{none_or_on_scale, is_shown_by, shown_entries}
+use Rattle.plum_geo.specs.Prediction.{last_value, shown}
 use Rattle.plum_core.specs.History.{packet_of, packets_of, IsEntryAfter, IsValidHistory}
 use Rattle.plum_core.proofs.Joining.{IsValidHistory-front}
-use Rattle.plum_core.proofs.Shown.{last_value, last_value-push, last_value-push_other}
-use Rattle.plum_core.proofs.Stations.{of_station-push_other}
+use Rattle.plum_core.proofs.Shown.{last_value-push, last_value-push_other}
+use Rattle.plum_seq.proofs.Stations.{of_station-other}
 
 -- a test of order that holds
 le_yes : (a b : ℤ) → a ≤ℤ b → int_le a b ≡ true
@@ -44,7 +45,7 @@ module _ (setup : Setup) (stations s : ℕ) (is_table : IsLevelTable setup.level
 
   -- an entry that the station shows
   abbrev passes : Entry → Bool
-  passes f = (f.station.0 == s) && none_or_on_scale f.value
+  passes f = is_shown_by s f
 
   module _ (history : List Entry) (e : Entry) (before : Shows history)
       (right : IsEntryAfter setup stations history e) where
@@ -71,7 +72,7 @@ module _ (setup : Setup) (stations s : ℕ) (is_table : IsLevelTable setup.level
         last_value-push_other passes history e (ap (λ b. b && none_or_on_scale e.value) is) in
         let same : packets_of s longer ≡ packets_of s history =
         ap (of_station s) (map-append packet_of history (e ∷ []))
-        ∙ of_station-push_other s (map packet_of history) (packet_of e) is in
+        ∙ of_station-other s (map packet_of history) (packet_of e) is in
         subst (IsValueOf setup (packets_of s longer)) (sym value)
         (subst (λ ps. IsValueOf setup ps (last_value (shown_entries history s))) (sym same) before)
 

@@ -1,19 +1,13 @@
 -- What a station shows after one more entry.
 use Rattle.std.proofs.Common.{◌≡◌, ℕ, ◌<◌, Bool, true, false, cond, List, [], ◌∷◌, ◌++◌, filter}
-use Rattle.std.proofs.Common.{Option, None, ◌∙◌, ap, append-nil}
+use Rattle.std.proofs.Common.{None, ◌∙◌, ap, append-nil}
 use Rattle.std.proofs.lemmas.Bool.{lt-ltb}
 use Rattle.std.proofs.lemmas.List.Elements.{filter-append}
-use Rattle.std.specs.List.{last_or}
 use Rattle.std.specs.Option.{option_and_then}
 use Rattle.std.specs.Prelude.{if◌then◌else◌}
 use Rattle.plum_base.specs.declared.entry.Entry.{Entry}
-use Rattle.plum_base.specs.declared.numbers.Tenths.{Tenths}
 use Rattle.plum_seq.proofs.Pushes.{last_or-push}
-use Rattle.plum_geo.specs.Prediction.{shown_entries, shown}
-
--- the value of the last of these entries
-abbrev pub last_value : List Entry → Option Tenths
-last_value es = option_and_then (λ e. e.value) (last_or None es)
+use Rattle.plum_geo.specs.Prediction.{shown_entries, last_value, shown}
 
 -- A listed station shows the value of its last entry.
 pub shown-listed : (stations : ℕ) (history : List Entry) (s : ℕ) → s < stations

@@ -1,15 +1,16 @@
 -- The packets of a station, and a station at work, one more packet on.
 use Rattle.std.proofs.Common.{◌≡◌, ℕ, Bool, true, false, List, [], ◌∷◌, ◌++◌, map, Option, refl}
-use Rattle.std.proofs.Common.{sym, ◌∙◌, ap, subst, append-nil, eq-eqb}
+use Rattle.std.proofs.Common.{sym, ◌∙◌, ap, subst, eq-eqb}
 use Rattle.std.proofs.lemmas.List.{map-append}
 use Rattle.std.proofs.lemmas.List.Elements.{filter-append}
-use Rattle.std.specs.Prelude.{if◌then◌else◌, ◌==◌}
+use Rattle.std.specs.Prelude.{◌==◌}
 use Rattle.plum_base.specs.declared.numbers.Key.{Key}
 use Rattle.plum_base.specs.declared.numbers.Tenths.{Tenths}
 use Rattle.plum_base.specs.declared.packet.Packet.{Packet}
 use Rattle.plum_base.specs.declared.setup.Setup.{Setup}
 use Rattle.plum_seq.specs.Keys.{of_station, keys_of, greatest_key, is_kept, is_fresh, with_fresh}
 use Rattle.plum_seq.specs.Laws.{FreshJoins, FreshLeaves, KeptByOwn, FreshByOwn}
+use Rattle.plum_seq.proofs.Stations.{of_station-own}
 use Rattle.plum_engine.specs.Engine.{StandsFor, IsValueOf}
 use Rattle.plum_engine.specs.Level.{IsValue}
 use Rattle.plum_engine.specs.Run.{samples_since_gap}
@@ -23,20 +24,9 @@ pub of_station-append : (s : ℕ) (ps qs : List Packet)
 of_station-append s ps qs = filter-append (λ (p : Packet). p.station.0 == s) ps qs
 
 module _ (s : ℕ) (ps : List Packet) (p : Packet) where
-  -- one more packet, whether it is the station's or not
-  after : (b : Bool) → (p.station.0 == s) ≡ b
-      → of_station s (ps ++ p ∷ []) ≡ of_station s ps ++ (if b then p ∷ [] else [])
-  after b is =
-      of_station-append s ps (p ∷ []) ∙ ap (λ b. of_station s ps ++ (if b then p ∷ [] else [])) is
-
   -- one more packet of the station
   pub of_station-push : p.station.0 ≡ s → of_station s (ps ++ p ∷ []) ≡ of_station s ps ++ p ∷ []
-  of_station-push own = after true (eq-eqb p.station.0 s own)
-
-  -- one more packet of another
-  pub of_station-push_other : (p.station.0 == s) ≡ false
-      → of_station s (ps ++ p ∷ []) ≡ of_station s ps
-  of_station-push_other other = after false other ∙ append-nil (of_station s ps)
+  of_station-push own = of_station-own s ps p (eq-eqb p.station.0 s own)
 
   -- its keys, one more packet of it on
   keys_of-push : p.station.0 ≡ s → keys_of s ps ++ p.key ∷ [] ≡ keys_of s (ps ++ p ∷ [])

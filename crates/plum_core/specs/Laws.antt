@@ -17,11 +17,11 @@ use Rattle.plum_geo.specs.Prediction.{shown}
 use Rattle.plum_core.specs.declared.event.Event.{Event}
 use Rattle.plum_core.specs.declared.event.Reply.{Reply}
 use Rattle.plum_core.specs.History.{packets_of, entries_of_lane, IsEntryAfter, IsValidHistory}
-use Rattle.plum_core.specs.History.{HoldsKept}
 use Rattle.plum_core.specs.Facts.{IsInLaneOrder, IsBacklog, KeepsFacts}
 use Rattle.plum_core.specs.Machine.{State, start, step, state_after, waiting_after, AreReplies}
 use Rattle.plum_core.specs.Machine.{IsReadAt, NamesExist}
-use Rattle.plum_core.specs.Transcript.{Transcript, entries_up_to, journal_of, targets_of}
+use Rattle.plum_core.specs.Transcript.{Transcript, entries_up_to, journal_of}
+use Rattle.plum_base.specs.Sites.{targets_of}
 use Rattle.plum_core.specs.Transcript.{ArePredictions, IsLegal, IsLegalUpTo}
 
 -- The setup's cascade passes its input through, and its table is lawful.
@@ -45,11 +45,6 @@ FrontIsValid = (setup : Setup) (stations : ℕ) (front rest : List Entry)
 abbrev pub FrontOfLane : Type 0
 FrontOfLane = (lane : ℕ) (front rest : List Entry)
     → entries_of_lane lane (front ++ rest) ≡ entries_of_lane lane front ++ entries_of_lane lane rest
-
--- A history of the kept packets has of each station the kept ones of its packets.
-abbrev pub HistoryByStation : Type 0
-HistoryByStation = (station : ℕ) (history : List Entry) (packets : List Packet)
-    → HoldsKept history packets → packets_of station history ≡ kept (of_station station packets)
 
 -- A transcript that is legal up to the last segment is legal, and the other way round.
 abbrev pub LegalToTheEnd : Type 0

@@ -1,5 +1,5 @@
 -- Stations at work.
-use Rattle.std.specs.Prelude.{◌≡◌, ℕ, ◌<◌, ◌==◌, true, false, if◌then◌else◌, List, [], ◌∷◌, ◌++◌}
+use Rattle.std.specs.Prelude.{◌≡◌, ℕ, ◌<◌, ◌==◌, true, if◌then◌else◌, List, [], ◌∷◌, ◌++◌}
 use Rattle.std.specs.Prelude.{length, slice_index_or}
 use Rattle.plum_base.specs.declared.entry.Entry.{Entry}
 use Rattle.plum_base.specs.declared.packet.Packet.{Packet}
@@ -7,7 +7,8 @@ use Rattle.plum_base.specs.declared.numbers.LaneNo.{LaneNo}
 use Rattle.plum_base.specs.declared.setup.Setup.{Setup}
 use Rattle.plum_engine.specs.Engine.{StandsFor, IsValueOf}
 use Rattle.plum_seq.specs.Keys.{of_station, keys_of, is_kept, is_fresh, with_fresh, greatest_key}
-use Rattle.plum_seq.specs.Keys.{IsGreatestKey}
+use Rattle.plum_seq.specs.Verdicts.{IsVerdict}
+use Rattle.plum_seq.specs.declared.seq.Verdict.TheVariants as verdicts
 use Rattle.plum_core.specs.declared.network.Network.{Network}
 use Rattle.plum_core.specs.declared.station.Station.{Station}
 use Rattle.plum_core.specs.declared.station.Taken.{Taken}
@@ -31,7 +32,7 @@ pub record IsEntryOf (setup : Setup) (earlier : List Packet) (lane : LaneNo) (pa
 -- A packet after these gives its entry where it is kept; a repeat tells the greatest key before it.
 abbrev pub Gives : Setup → List Packet → LaneNo → Packet → Taken → Type 0
 Gives setup earlier lane packet (Repeat last) =
-    (is_kept earlier packet ≡ false) × IsGreatestKey (keys_of packet.station.0 earlier) last
+    IsVerdict (keys_of packet.station.0 earlier) packet.key (verdicts.Repeat last)
 Gives setup earlier lane packet (Kept e) = IsEntryOf setup earlier lane packet e
 
 -- The stations of a network of this setup were given these packets, by the number of the station.

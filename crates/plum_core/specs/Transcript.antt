@@ -2,7 +2,6 @@
 use Rattle.std.specs.Prelude.{◌≡◌, ℕ, ◌+◌, ◌-◌, ◌≤◌, ◌==◌, if◌then◌else◌, List, [], ◌∷◌, ◌++◌}
 use Rattle.std.specs.Prelude.{length, map, filter, take, slice_get, All, Option, Some}
 use Rattle.std.specs.List.{flat_map, AllZip}
-use Rattle.std.specs.Str.{bytes_eq}
 use Rattle.plum_base.specs.declared.answers.Reading.{Reading}
 use Rattle.plum_base.specs.declared.entry.Entry.{Entry}
 use Rattle.plum_base.specs.declared.numbers.Tenths.{Tenths}
@@ -10,7 +9,7 @@ use Rattle.plum_base.specs.declared.packet.Packet.{Packet}
 use Rattle.plum_base.specs.declared.setup.Setup.{Setup}
 use Rattle.plum_base.specs.declared.sites.StationSite.{StationSite}
 use Rattle.plum_base.specs.declared.sites.TargetSite.{TargetSite}
-use Rattle.plum_base.specs.Sites.{SitesView, areas_of}
+use Rattle.plum_base.specs.Sites.{SitesView, areas_of, targets_of}
 use Rattle.plum_base.specs.Lane.{lane_of}
 use Rattle.plum_seq.specs.Keys.{kept_after}
 use Rattle.plum_geo.specs.Prediction.{IsPredictionOver}
@@ -55,10 +54,6 @@ of_lane lanes lane packets = filter (λ p. lane_of lanes p.station.0 == lane) pa
 abbrev pub HoldsByLane : ℕ → List Entry → List Packet → Type 0
 HoldsByLane lanes part packets =
     (lane : ℕ) → of_lane lanes lane (map packet_of part) ≡ of_lane lanes lane packets
-
--- the targets of an area, in file order
-abbrev pub targets_of : List ℕ → List TargetSite → List TargetSite
-targets_of area targets = filter (λ t. bytes_eq t.area area) targets
 
 -- The answers are the predictions at these targets, one for one.
 abbrev pub ArePredictions : List StationSite → List Entry → List TargetSite → List (Option Tenths)

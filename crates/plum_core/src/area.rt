@@ -1,7 +1,8 @@
 //! The reading of an area.
 
 ghost use Rattle.std.specs.Prelude.{◌≡◌, length, IfOk};
-ghost use Rattle.plum_core.specs.Transcript.{targets_of, ArePredictions};
+ghost use Rattle.plum_core.specs.Transcript.{ArePredictions};
+ghost use Rattle.plum_base.specs.Sites.{targets_of};
 
 use crate::predict::predict;
 use plum_base::{Answers, Entry, Name, NoMemory, Reading, Sites};

@@ -1,6 +1,6 @@
 //! Laws of histories and of the machine, each for whoever calls its function.
 
-ghost use Rattle.plum_core.specs.Laws.{ShowsItsValue, FrontIsValid, FrontOfLane, HistoryByStation};
+ghost use Rattle.plum_core.specs.Laws.{ShowsItsValue, FrontIsValid, FrontOfLane};
 ghost use Rattle.plum_core.specs.Laws.{LegalToTheEnd, LegalByStation, LegalShows, TakingKeeps};
 ghost use Rattle.plum_core.specs.Laws.{NextEntryJoins, WaitingEntryJoins, OrderJoins, OrderStays};
 ghost use Rattle.plum_core.specs.Laws.{SendingKeeps, FactsAtStart, StepKeepsFacts, EventsKeepFacts};
@@ -17,11 +17,10 @@ pub fn station_shows_its_value()
     ensures { ShowsItsValue }
 {}
 
-/// What a front of a history keeps, and what a history of the kept packets has of each station.
+/// What a front of a history keeps.
 pub fn histories()
     ensures valid { FrontIsValid }
     ensures lane { FrontOfLane }
-    ensures by_station { HistoryByStation }
 {
     // For the contract: what is known of keys.
     kept_packets();

@@ -1,13 +1,13 @@
 //! Predictions by PLUM, by a scan of all stations.
 
-ghost use Rattle.std.specs.Prelude.{ℕ, ◌≡◌, ◌<◌, ◌≤◌, ◌&&◌, ◌==◌, ◌⊎◌, length, All, IsTrue, Some};
-ghost use Rattle.std.specs.Prelude.{None, IfSome, IfNone, IsSomeAnd, ◌-ℤ◌, ◌+ℤ◌, ◌≤ℤ◌};
+ghost use Rattle.std.specs.Prelude.{ℕ, ◌≡◌, ◌<◌, ◌⊎◌, length, IsTrue, Some, None, IfSome, IfNone};
+ghost use Rattle.std.specs.Prelude.{IsSomeAnd, ◌≤ℤ◌};
 ghost use Rattle.plum_base.specs.declared.numbers.Tenths.{Tenths};
-ghost use Rattle.plum_base.specs.Sites.{MOST_STATIONS};
-ghost use Rattle.plum_base.specs.Sites.{IsPlace};
+ghost use Rattle.plum_base.specs.Sites.{IsPlace, AreStations};
 ghost use Rattle.plum_base.specs.Levels.{IsFactor};
-ghost use Rattle.plum_geo.specs.Prediction.{none_or_on_scale, shown, corrected, IsOnScale, IsNear};
-ghost use Rattle.plum_geo.specs.Prediction.{IsBest, IsPredictionOver};
+ghost use Rattle.plum_geo.specs.Prediction.{none_or_on_scale, is_shown_by, shown, corrected};
+ghost use Rattle.plum_geo.specs.Prediction.{plus_factor, IsOnScale, IsNear, IsBest};
+ghost use Rattle.plum_geo.specs.Prediction.{IsPredictionOver};
 ghost use Rattle.plum_core.specs.Corrected.{IsOnCorrectedScale};
 
 use plum_base::{Entry, Point, StationNo, StationSite, TargetSite, Tenths};
@@ -30,8 +30,7 @@ fn shown(history: &[Entry], station: StationNo) -> Option<Tenths>
 
 /// Whether the entry is one of the station's, with a value on the scale.
 fn is_shown_by(entry: &Entry, station: StationNo) -> bool
-    ensures value { result
-        ≡ ((entry.now.station.0 == station.0) && none_or_on_scale entry.now.value) }
+    ensures value { result ≡ is_shown_by station.0 entry.now }
     ensures scale { IsTrue result → IfSome entry.now.value IsOnScale }
 {
     entry.station.0 == station.0 && none_or_on_scale(entry.value)
@@ -70,26 +69,26 @@ fn said_by(
         return None;
     }
     let value = shown(history, station)?;
-    Some(less(value, site.factor))
+    Some(less(value, site))
 }
 
 /// A value less the factor of its station.
-fn less(value: Tenths, factor: Tenths) -> Tenths
+fn less(value: Tenths, site: &StationSite) -> Tenths
     requires scale { IsOnScale value }
-    requires factor { IsFactor factor }
-    ensures value { result.0 ≡ value.0 -ℤ factor.0 }
+    requires factor { IsFactor site.now.factor }
+    ensures value { result.0 ≡ corrected site.now value }
     ensures range { IsOnCorrectedScale result }
 {
-    Tenths(value.0 - factor.0)
+    Tenths(value.0 - site.factor.0)
 }
 
 /// The best at a place plus the factor of a target there.
-fn plus(best: Tenths, factor: Tenths) -> Tenths
+fn plus(best: Tenths, target: &TargetSite) -> Tenths
     requires scale { IsOnCorrectedScale best }
-    requires factor { IsFactor factor }
-    ensures { result.0 ≡ best.0 +ℤ factor.0 }
+    requires factor { IsFactor target.now.factor }
+    ensures { Some result ≡ plus_factor target.now (Some best) }
 {
-    Tenths(best.0 + factor.0)
+    Tenths(best.0 + target.factor.0)
 }
 
 /// The greater of what two stations say; none is below each value.
@@ -103,9 +102,7 @@ fn greater_of(a: Option<Tenths>, b: Option<Tenths>) -> Option<Tenths>
 
 /// The best at a place over the board after these entries: the greatest of what the stations say.
 fn best_at(stations: &[StationSite], history: &[Entry], place: Point) -> Option<Tenths>
-    requires few { length stations.now ≤ MOST_STATIONS }
-    requires places { All (λ s. IsPlace s.at) stations.now }
-    requires factors { All (λ s. IsFactor s.factor) stations.now }
+    requires stations { AreStations stations.now }
     requires place { IsPlace place }
     ensures best { IsBest stations.now (shown (length stations.now) history.now) place result }
     ensures range { IfSome result IsOnCorrectedScale }
@@ -123,13 +120,11 @@ fn best_at(stations: &[StationSite], history: &[Entry], place: Point) -> Option<
 /// The prediction at a target over the board after these entries: the best at its place, plus its
 /// factor.
 pub fn predict(stations: &[StationSite], history: &[Entry], target: &TargetSite) -> Option<Tenths>
-    requires few { length stations.now ≤ MOST_STATIONS }
-    requires places { All (λ s. IsPlace s.at) stations.now }
-    requires factors { All (λ s. IsFactor s.factor) stations.now }
+    requires stations { AreStations stations.now }
     requires target_place { IsPlace target.now.at }
     requires target_factor { IsFactor target.now.factor }
     ensures { IsPredictionOver stations.now history.now target.now result }
 {
     let best = best_at(stations, history, target.at)?;
-    Some(plus(best, target.factor))
+    Some(plus(best, target))
 }

@@ -1,5 +1,6 @@
 use Rattle.std.proofs.Common.{take}
-use Rattle.plum_core.specs.Transcript.{targets_of, ArePredictions}
+use Rattle.plum_core.specs.Transcript.{ArePredictions}
+use Rattle.plum_base.specs.Sites.{targets_of}
 use Rattle.plum_core.proofs.area.read_area.Given as goal
 
 abbrev pub invariant-loop-target : goal.invariant-loop-target

@@ -6,7 +6,8 @@ use Rattle.plum_core.proofs.laws.machine_replies_in_one_way.Goals as goal
 pub returns-clause-exist : goal.returns-clause-exist
 returns-clause-exist c = λ setup sites events.
     let greatest_is = c.greatest_keys.ensures.is in
-    has_replies greatest_is c.near_stations_are_those_near.ensures setup sites start events
+    has_replies greatest_is c.greatest_keys.ensures.none c.near_stations_are_those_near.ensures
+    setup sites start events
 
 pub returns-clause-one_each : goal.returns-clause-one_each
 returns-clause-one_each c = one_for_each

@@ -1,8 +1,5 @@
-use Rattle.std.proofs.Common.{Option, Some, ℤ, ap}
-use Rattle.plum_base.specs.declared.numbers.Tenths.{Tenths}
+use Rattle.std.proofs.Common.{Some}
 use Rattle.plum_core.proofs.predict.predict.Goals as goal
 
 pub returns : goal.returns
-returns c =
-    let some : ℤ → Option Tenths = λ z. Some (record { 0 = z }) in
-    (Some c.in_ok-best.best, c.in_ok-best.ensures.best, ap some c.plus.ensures)
+returns c = (Some c.in_ok-best.best, c.in_ok-best.ensures.best, c.plus.ensures)

@@ -1,7 +1,7 @@
-use Rattle.std.proofs.Common.{◌&&◌, ◌==◌, Bool, sym, ◌∙◌}
+use Rattle.std.proofs.Common.{Bool, sym, ◌∙◌}
 use Rattle.std.proofs.lemmas.List.{take_more, take_all}
 use Rattle.plum_base.specs.declared.entry.Entry.{Entry}
-use Rattle.plum_geo.specs.Prediction.{none_or_on_scale}
+use Rattle.plum_geo.specs.Prediction.{is_shown_by}
 use Rattle.plum_core.proofs.Shown.{shown-listed, last_value-push, last_value-push_other}
 use Rattle.plum_core.proofs.predict.shown.Goals as goal
 use Rattle.plum_core.proofs.predict.shown.Goals.{then-is_shown_by, else-is_shown_by}
@@ -11,8 +11,7 @@ loop-entry-preserved c =
     let history = c.args.history.now in
     let e = c.entry-item.result in
     let before = c.loop-entry.invariant in
-    let passes : Entry → Bool = λ e.
-    (e.station.0 == c.args.station.0) && none_or_on_scale e.value in
+    let passes : Entry → Bool = λ e. is_shown_by c.args.station.0 e in
     let one_more = take_more history c.loop-entry.entry-index e c.loop-entry-test.true in
     elim c.if-is_shown_by.branch [
       | then-is_shown_by w ↦

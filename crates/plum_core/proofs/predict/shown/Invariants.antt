@@ -1,7 +1,6 @@
 use Rattle.std.proofs.Common.{◌≡◌, take}
 use Rattle.std.specs.Prelude.{IfSome}
-use Rattle.plum_geo.specs.Prediction.{shown_entries, IsOnScale}
-use Rattle.plum_core.proofs.Shown.{last_value}
+use Rattle.plum_geo.specs.Prediction.{shown_entries, last_value, IsOnScale}
 use Rattle.plum_core.proofs.predict.shown.Given as goal
 
 abbrev pub invariant-loop-entry : goal.invariant-loop-entry

@@ -59,4 +59,4 @@ returns-in-Repeat-clause-reply c = λ setup sites state follows.
     let free =
     IsFree-found setup state p m _ _ follows lane.value lane.bound c.index.ensures none in
     let told = c.in-Repeat.ensures.gives setup (taken_of setup state) follows.network in
-    (lane_is_free setup state p m m _ free, told.0, told.1)
+    (lane_is_free setup state p m m _ free, told)
