@@ -1,0 +1,11 @@
+pub mod Cuts
+pub mod Words
+pub mod Tellings
+pub mod OneLine
+pub mod OneText
+pub mod OneNote
+pub mod TextLines
+pub mod OneArea
+pub mod OneSection
+pub mod LineParts
+pub mod Magnitudes

@@ -1,0 +1,23 @@
+//! What lines and texts tell, each law for whoever calls its function.
+
+ghost use Rattle.plum_text.specs.Laws.{OneJournalLine, OneOutLine, JournalTells, OutputTells};
+
+use plum_scale::texts_are_distinct;
+
+/// The bytes of a line determine its fields.
+pub fn lines_tell_their_fields()
+    ensures journal { OneJournalLine }
+    ensures output { OneOutLine }
+{
+    // For the contract: a text is that of one class or one intensity.
+    texts_are_distinct();
+}
+
+/// For given sites the two texts determine all that their lines show.
+pub fn texts_tell_a_run()
+    ensures journal { JournalTells }
+    ensures output { OutputTells }
+{
+    // For the contract: a text is that of one class or one intensity.
+    texts_are_distinct();
+}
