@@ -1,0 +1,5 @@
+pub mod Lists
+pub mod Greatest
+pub mod Alerts
+pub mod Steps
+pub mod OneList

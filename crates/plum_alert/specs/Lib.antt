@@ -1,0 +1,4 @@
+pub mod Readings
+pub mod Alerts
+pub mod Desk
+pub mod Laws
