@@ -10,7 +10,8 @@ use Rattle.plum_base.specs.declared.packet.Packet.{Packet}
 use Rattle.plum_base.specs.declared.packet.PacketFault.{PacketFault}
 use Rattle.plum_seq.specs.Keys.{is_kept, kept_after}
 use Rattle.plum_packet.specs.Segments.{packets_in, refused_in}
-use Rattle.plum.specs.Texts.{counts_of, Section, section_of, sections_from, totals_of, AddUp}
+use Rattle.plum_text.specs.Texts.{Section, totals_of}
+use Rattle.plum.specs.Texts.{counts_of, section_of, sections_from, AddUp}
 use Rattle.plum_core.specs.Transcript.{kept_in_segments_after}
 
 -- no more packets are kept than there are

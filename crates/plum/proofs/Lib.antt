@@ -1,5 +1,4 @@
 pub mod Words
-pub mod Counting
 pub mod Taking
 pub mod AnswerLines
 pub mod Stops

@@ -1,11 +1,12 @@
 -- A capture of one segment, and the transcript of its one reading.
 use Rattle.std.proofs.Common.{◌≡◌, ℕ, ◌+◌, ◌-◌, ◌<◌, ◌≤◌, zero, suc, List, [], ◌∷◌, length, take}
+use Rattle.std.proofs.Common.{map}
 use Rattle.std.proofs.Common.{Some, Result, Ok, refl, sym, ap, subst, ◌∙◌, arith, append-nil}
 use Rattle.std.proofs.lemmas.List.{length-map}
 use Rattle.std.proofs.Math.Seq.{take-length}
 use Rattle.std.proofs.lemmas.List.Elements.{All-nil, All-cons}
 use Rattle.std.specs.Prelude.{slice_get}
-use Rattle.std.specs.List.{AllZip, enumerate_from}
+use Rattle.std.specs.List.{AllZip, enumerate_from, flat_map}
 use Rattle.plum_base.specs.declared.answers.Reading.{Reading}
 use Rattle.plum_base.specs.declared.entry.Entry.{Entry}
 use Rattle.plum_base.specs.declared.packet.Packet.{Packet}
@@ -18,12 +19,15 @@ use Rattle.plum_packet.specs.Segments.{SEGMENT_BODIES}
 use Rattle.plum_packet.specs.Laws.{OneSegment}
 use Rattle.plum_packet.specs.Segments.{segments_of, HasNoMark, IsDecodedSegment, packets_in}
 use Rattle.plum_packet.specs.Segments.{refused_in}
-use Rattle.plum.specs.declared.text.lines.Counts.{Counts}
+use Rattle.plum_base.specs.declared.counts.Counts.{Counts}
 use Rattle.plum.specs.Bodies.{ArePackets}
 use Rattle.plum_seq.specs.Keys.{kept}
 use Rattle.plum_core.specs.History.{packet_of, IsValidHistory, HoldsKept}
-use Rattle.plum.specs.Texts.{entry_lines, journal_text, one_area, sections_of}
-use Rattle.plum_core.specs.Transcript.{Transcript, journal_of, IsReadingAt, of_lane, targets_of}
+use Rattle.plum_text.specs.Lines.{journal_line}
+use Rattle.plum_text.specs.Texts.{note_of, lines_from, journal_text}
+use Rattle.plum.specs.Texts.{one_area, sections_of}
+use Rattle.plum_core.specs.Transcript.{Transcript, journal_of, IsReadingAt, of_lane}
+use Rattle.plum_base.specs.Sites.{targets_of}
 use Rattle.plum_core.specs.Transcript.{ArePredictions, IsLegal}
 
 -- a packet is no mark
@@ -120,10 +124,16 @@ module _ (setup : Setup) (sites : SitesView) (history : List Entry) (reading : R
         ≡ Some area) only.1 named));
   }
 
+-- the lines of these entries of segment 1, the first of them at position n of the journal
+abbrev pub entries_text : List StationSite → ℕ → List Entry → List ℕ
+entries_text stations n history =
+    flat_map journal_line (lines_from stations n (map (λ e. (1, note_of e)) history))
+
 -- the journal of such a transcript
-pub journal_one : (stations : List StationSite) (history : List Entry) (reading : Reading)
-    → journal_text stations (one_reading history reading) ≡ entry_lines stations 1 1 history
-journal_one stations history reading = append-nil (entry_lines stations 1 1 history)
+pub journal_one : (stations : List StationSite) (history : List Entry)
+    → journal_text stations (history ∷ []) ≡ entries_text stations 1 history
+journal_one stations history = ap (λ notes. flat_map journal_line (lines_from stations 1 notes))
+    (append-nil (map (λ e. (1, note_of e)) history))
 
 -- its section
 pub section_one : (history : List Entry) (reading : Reading) (packets : List Packet)

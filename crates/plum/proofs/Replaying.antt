@@ -1,7 +1,7 @@
 -- What a replay counts and appends.
-use Rattle.std.proofs.Common.{◌≡◌, ℕ, ◌-◌, ◌≤◌, List, [], ◌∷◌, ◌++◌}
-use Rattle.std.proofs.Common.{length, Option, Some, None, refl, sym, ap, subst, ◌∙◌, arith}
-use Rattle.std.proofs.lemmas.List.{append-nil, length-map}
+use Rattle.std.proofs.Common.{◌≡◌, ℕ, ◌-◌, ◌≤◌, List, [], ◌∷◌}
+use Rattle.std.proofs.Common.{length, Some, refl, sym, ap, subst, ◌∙◌, arith}
+use Rattle.std.proofs.lemmas.List.{length-map}
 use Rattle.plum_base.specs.declared.packet.Packet.{Packet}
 use Rattle.plum_base.specs.declared.answers.Reading.{Reading}
 use Rattle.plum_base.specs.declared.entry.Entry.{Entry}
@@ -9,32 +9,28 @@ use Rattle.plum_base.specs.declared.setup.Setup.{Setup}
 use Rattle.plum_base.specs.Sites.{areas_of}
 use Rattle.std.specs.Prelude.{slice_get}
 use Rattle.plum_host.specs.declared.host.To.TheVariants.{Out, Journal}
-use Rattle.plum_host.specs.Told.{HostView, Appends}
-use Rattle.plum.specs.declared.text.lines.Counts.{Counts}
+use Rattle.plum_host.specs.Told.{HostView}
+use Rattle.plum_base.specs.declared.counts.Counts.{Counts}
 use Rattle.plum_core.specs.History.{packet_of, HoldsKept, IsValidHistory}
 use Rattle.plum_base.specs.declared.sites.StationSite.{StationSite}
+use Rattle.plum_base.specs.declared.sites.TargetSite.{TargetSite}
 use Rattle.plum_host.specs.declared.host.In.TheVariants.{Capture}
 use Rattle.plum.specs.Replayed.{IsOneSegment, IsReplay, IsReadWhole, ReadsOneSegment}
 use Rattle.plum.specs.BuiltIn.{IsBuiltInSetup, built_in_stations, built_in_targets, built_in_sites}
-use Rattle.plum.specs.Texts.{entry_lines, one_area, sections_of, output_text}
-use Rattle.plum_core.specs.Transcript.{targets_of, ArePredictions, IsLegal}
+use Rattle.plum_text.specs.Texts.{journal_text, out_text}
+use Rattle.plum.specs.Texts.{one_area, sections_of}
+use Rattle.plum_core.specs.Transcript.{ArePredictions, IsLegal}
+use Rattle.plum_base.specs.Sites.{targets_of}
 use Rattle.plum_packet.specs.Laws.{OneSegment}
 use Rattle.plum.proofs.AddingUp.{few_kept}
 use Rattle.plum.proofs.OneSegment.{all_lawful, packets_in-all_lawful, decoded_one, one_reading}
-use Rattle.plum.proofs.OneSegment.{legal_one, journal_one, section_one}
+use Rattle.plum.proofs.OneSegment.{legal_one, section_one}
 
 -- a history of the kept packets is no longer than the packets
 pub length-HoldsKept : (history : List Entry) (packets : List Packet) → HoldsKept history packets
     → length history ≤ length packets
 length-HoldsKept history packets holds =
     omega (arith, length-map history packet_of, ap length holds, few_kept [] packets)
-
--- nothing, and then a text
-pub appends_text : (text : List ℕ) (before opened after : Option (List ℕ))
-    → Appends before opened [] → Appends opened after text → Appends before after text
-appends_text text None opened after h k = tt
-appends_text text (Some held) opened after h k =
-    (subst (λ o. Appends o after text) h k) ∙ ap (λ front. Some (front ++ text)) (append-nil held)
 
 module _ (setup : Setup) (built_in : IsBuiltInSetup setup) (capture : List ℕ)
     (packets : List Packet) (tail : ℕ)
@@ -52,6 +48,8 @@ module _ (setup : Setup) (built_in : IsBuiltInSetup setup) (capture : List ℕ)
 
   -- The lines of a valid and complete history, and the output of a reading over it, make a replay.
   pub replay_of : OneSegment
+      → (stations : List StationSite) (targets : List TargetSite)
+      → stations ≡ built_in_stations → targets ≡ built_in_targets
       → (history : List Entry) (reading : Reading) (counts : Counts) (journal output : List ℕ)
       → IsValidHistory setup 1 history → HoldsKept history packets
       → reading.front ≡ length history
@@ -63,11 +61,11 @@ module _ (setup : Setup) (built_in : IsBuiltInSetup setup) (capture : List ℕ)
             length packets - length history;
         refused = 0;
       }
-      → journal ≡ entry_lines built_in_stations 1 1 history
-      → output ≡ output_text built_in_targets (one_area counts reading ∷ []) tail
+      → journal ≡ journal_text stations (history ∷ [])
+      → output ≡ out_text targets (one_area counts reading ∷ []) tail
       → IsReplay setup built_in_sites capture journal output
-  replay_of one history reading counts journal output valid holds front are counted journal_is
-      output_is = record {
+  replay_of one stations targets same_stations same_targets history reading counts journal output
+      valid holds front are counted journal_is output_is = record {
         bodies = segment.bodies;
         rest = segment.rest;
         capture_is = segment.capture_is;
@@ -79,11 +77,12 @@ module _ (setup : Setup) (built_in : IsBuiltInSetup setup) (capture : List ℕ)
             (sym (packets_in-all_lawful 1 packets))
             (legal_one setup built_in_sites history reading packets front valid holds refl
             (of_the_area history reading are));
-        journal_is = journal_is ∙ sym (journal_one built_in_stations history reading);
+        journal_is = journal_is ∙ ap (λ sites. journal_text sites (history ∷ [])) same_stations;
         output_is = output_is
-            ∙ ap (λ sections. output_text built_in_targets sections tail)
+            ∙ ap (λ sites. out_text sites (one_area counts reading ∷ []) tail) same_targets
+            ∙ ap (λ sections. out_text built_in_targets sections tail)
             (sym (section_one history reading packets counts holds counted))
-            ∙ ap (output_text built_in_targets (sections_of (all_lawful 1 packets ∷ [])
+            ∙ ap (out_text built_in_targets (sections_of (all_lawful 1 packets ∷ [])
             ((reading ∷ []) ∷ []))) segment.tail_is;
       }
 

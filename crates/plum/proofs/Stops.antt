@@ -125,8 +125,8 @@ module _ (go_on : RowsGoOn) where
   one_stop stations capture n m some other first second =
       let row = first.bodies ++ first.body ∷ [] in
       let others = second.bodies ++ second.body ∷ [] in
-      elim (go_on row others first.rest second.rest first.lengths second.lengths
-      (sym first.spelled ∙ second.spelled)) [
+      elim (go_on row others first.rest second.rest first.records.lengths second.records.lengths
+      (sym first.records.spelled ∙ second.records.spelled)) [
         | inl on ↦ same_stop stations capture n m some other first second on.0 on.1
         | inr on ↦ sym (same_stop stations capture m n other some second first on.0 on.1)
       ]
@@ -138,13 +138,13 @@ module _ (go_on : RowsGoOn) where
   no_stop stations capture packets tail n cause segment stop =
       let row = stop.bodies ++ stop.body ∷ [] in
       let whole = segment.capture_is in
-      elim (go_on row segment.bodies stop.rest segment.rest stop.lengths whole.lengths
-      (sym stop.spelled ∙ whole.spelled)) [
+      elim (go_on row segment.bodies stop.rest segment.rest stop.records.lengths
+      whole.records.lengths (sym stop.records.spelled ∙ whole.records.spelled)) [
         | inl on ↦ passed stations capture n cause segment.bodies packets on.0 stop segment.decoded
             segment.few on.1
         | inr on ↦
             let all =
-            none_behind row segment.bodies on.0 segment.rest stop.rest stop.lengths
+            none_behind row segment.bodies on.0 segment.rest stop.rest stop.records.lengths
             whole.no_more on.1 on.2 in
             passed stations capture n cause segment.bodies packets [] stop segment.decoded
             segment.few all

@@ -1,5 +1,5 @@
 -- Taking a capture packet by packet.
-use Rattle.std.proofs.Common.{◌≡◌, ℕ, ◌+◌, ◌<◌, zero, suc, List, [], ◌∷◌, ◌++◌, length, All, Option}
+use Rattle.std.proofs.Common.{◌≡◌, ℕ, ◌+◌, ◌<◌, zero, suc, List, [], ◌∷◌, ◌++◌, length, Option}
 use Rattle.std.proofs.Common.{refl, ap, subst, ◌∙◌, arith}
 use Rattle.plum_base.specs.declared.sites.StationSite.{StationSite}
 use Rattle.plum_base.specs.declared.packet.Packet.{Packet}
@@ -10,6 +10,7 @@ use Rattle.plum_packet.specs.Segments.{SEGMENT_BODIES}
 use Rattle.plum_packet.specs.Capture.{mark_body, HasRecord}
 use Rattle.plum_packet.specs.Body.{IsPacket}
 use Rattle.plum_packet.specs.Records.{RecordsView, StandsAt}
+use Rattle.plum_core.specs.History.{AreListed}
 use Rattle.plum.specs.declared.stop.Cause.{Cause}
 use Rattle.plum.specs.Bodies.{IsCause, ArePackets, StopsAt, IsWithinSegment}
 
@@ -20,7 +21,7 @@ pub record HasTaken (stations : List StationSite) (records : RecordsView)
   pub limit : records.limit ≡ MOST_RECORDS
   pub given : records.given ≡ length packets
   pub few : records.given < SEGMENT_BODIES
-  pub listed : All (λ p. p.station.0 < length stations) packets
+  pub listed : AreListed (length stations) packets
 
 -- one packet more
 pub ArePackets-push : (stations : List StationSite) (bodies : List (List ℕ)) (packets : List Packet)
@@ -56,8 +57,7 @@ stops_at stations capture bodies packets old new left after n cause stood are fe
       packets = packets;
       body = new.last;
       rest = new.ahead ++ stands.rest;
-      spelled = stands.spelled;
-      lengths = stands.lengths;
+      records = stands.records;
       number = number ∙ ap (λ k. k + 1) stood.count;
       before = are;
       few = subst (λ k. k < SEGMENT_BODIES) stood.count few;
@@ -78,8 +78,7 @@ within_segment stations capture bodies packets old new left after stood are few 
       ahead = new.ahead;
       rest = stands.rest;
       told = stands.told;
-      spelled = stands.spelled;
-      lengths = stands.lengths;
+      records = stands.records;
       taken = are;
       few = subst (λ k. k < SEGMENT_BODIES) stood.count few;
       no_more = none;

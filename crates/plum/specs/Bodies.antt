@@ -1,10 +1,9 @@
 -- From the bodies of a capture to packets.
 use Rattle.std.specs.Prelude.{◌≡◌, ◌≢◌, ℕ, ◌+◌, ◌<◌, ⊤, List, [], ◌∷◌, ◌++◌, length, Option, Some}
-use Rattle.std.specs.List.{AllByRecursion, flat_map}
 use Rattle.plum_base.specs.declared.sites.StationSite.{StationSite}
 use Rattle.plum_base.specs.declared.packet.Packet.{Packet}
 use Rattle.plum_packet.specs.Segments.{SEGMENT_BODIES}
-use Rattle.plum_packet.specs.Capture.{record_of, mark_body, IsBody, HasRecord}
+use Rattle.plum_packet.specs.Capture.{mark_body, AreRecords, HasRecord}
 use Rattle.plum_packet.specs.Body.{IsPacket, IsFirstFault}
 use Rattle.plum.specs.declared.stop.Cause.{Cause}
 use Rattle.plum.specs.declared.stop.Cause.TheVariants.{Mark, Full, Refused}
@@ -32,8 +31,7 @@ pub record StopsAt (stations : List StationSite) (capture : List ℕ) (n : ℕ)
   pub packets : List Packet
   pub body : List ℕ
   pub rest : List ℕ
-  pub spelled : capture ≡ flat_map record_of (bodies ++ body ∷ []) ++ rest
-  pub lengths : AllByRecursion IsBody (bodies ++ body ∷ [])
+  pub records : AreRecords capture (bodies ++ body ∷ []) rest
   pub number : n ≡ length bodies + 1
   pub before : ArePackets stations bodies packets
   pub few : length bodies < SEGMENT_BODIES
@@ -48,8 +46,7 @@ pub record IsWithinSegment (stations : List StationSite) (capture : List ℕ)
   pub ahead : List ℕ
   pub rest : List ℕ
   pub told : left ≡ Some rest
-  pub spelled : capture ≡ flat_map record_of bodies ++ (ahead ++ rest)
-  pub lengths : AllByRecursion IsBody bodies
+  pub records : AreRecords capture bodies (ahead ++ rest)
   pub taken : ArePackets stations bodies packets
   pub few : length bodies < SEGMENT_BODIES
   pub no_more : ¬ HasRecord ahead

@@ -1,8 +1,5 @@
 pub mod Job
 pub mod Bodies
-pub mod Classes
-pub mod Lines
-pub mod Fields
 pub mod Texts
 pub mod BuiltIn
 pub mod Replayed

@@ -15,7 +15,8 @@ use Rattle.plum_packet.specs.Segments.{segments_of, IsDecodedSegment, packets_in
 use Rattle.plum_core.specs.Transcript.{Transcript, IsLegal}
 use Rattle.plum.specs.declared.stop.Cause.{Cause}
 use Rattle.plum.specs.Bodies.{ArePackets, StopsAt, IsWithinSegment}
-use Rattle.plum.specs.Texts.{journal_text, output_text, sections_of}
+use Rattle.plum_text.specs.Texts.{journal_text, out_text}
+use Rattle.plum.specs.Texts.{sections_of}
 use Rattle.plum.specs.BuiltIn.{IsBuiltInSetup, built_in_stations, built_in_sites}
 
 -- The capture is the records of these packets, and a tail.
@@ -39,9 +40,9 @@ pub record IsReplay (setup : Setup) (sites : SitesView)
   pub decoded : AllZip (IsDecodedSegment sites.stations) (segments_of bodies) segments
   pub transcript : Transcript
   pub legal : IsLegal setup sites (map packets_in segments) transcript
-  pub journal_is : journal ≡ journal_text sites.stations transcript
+  pub journal_is : journal ≡ journal_text sites.stations transcript.parts
   pub output_is : output
-      ≡ output_text sites.targets (sections_of segments transcript.readings) (length rest)
+      ≡ out_text sites.targets (sections_of segments transcript.readings) (length rest)
 
 -- The two texts of a replay of this capture, under the built-in setup and sites, are appended to
 -- what the journal and the output held.

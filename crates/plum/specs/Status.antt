@@ -1,8 +1,7 @@
 -- Statuses: their numbers and texts, and what they count (the project's own).
-use Rattle.std.specs.Prelude.{ℕ, List, [], ◌∷◌, codes, decimal}
+use Rattle.std.specs.Prelude.{ℕ, List, [], ◌++◌, codes, decimal}
 use Rattle.plum_host.specs.Told.{HostView}
-use Rattle.plum.specs.Lines.{line}
-use Rattle.plum.specs.Stops.{CountsNothing, CountsRead, CountsWrite}
+use Rattle.plum_host.specs.Counting.{CountsNothing, CountsRead, CountsWrite}
 use Rattle.plum.specs.declared.status.Status.{Status}
 use Rattle.plum.specs.declared.status.Status.TheVariants.{Done, Usage, ReadFault, WriteFault}
 use Rattle.plum.specs.declared.status.Status.TheVariants.{NoMemory, NotYet}
@@ -21,7 +20,7 @@ text_of Usage = codes "plum: usage: replay SETUP STATIONS TARGETS CAPTURE JOURNA
 text_of ReadFault = codes "plum: read fault\n"
 text_of WriteFault = codes "plum: write fault\n"
 text_of NoMemory = codes "plum: no memory\n"
-text_of (NotYet n) = line (codes "plum: not yet") (decimal n ∷ [])
+text_of (NotYet n) = codes "plum: not yet " ++ decimal n ++ codes "\n"
 
 -- What is counted where a call ends so: the one fault that ended it, and nothing else.
 abbrev pub CountsEnd : Status → HostView → HostView → Type 0

@@ -2,6 +2,7 @@
 
 ghost use Rattle.std.specs.Prelude.{◌≡◌, ◌≢◌, ◌↔◌, ℕ, ◌+◌, ◌^◌, ◌<◌, ◌≤◌, length, IsTrue, Err};
 ghost use Rattle.std.specs.Prelude.{IfOk, IfErr, IfSome, IfNone, OnOk, IsErrOf};
+ghost use Rattle.plum_host.specs.Counting.{CountsNothing};
 ghost use Rattle.plum_host.specs.declared.host.In.TheVariants.{Capture};
 ghost use Rattle.plum_host.specs.Frames.{OnlyReads};
 ghost use Rattle.plum_packet.specs.declared.records.TheConstants.{MOST_RECORDS};
@@ -14,7 +15,7 @@ ghost use Rattle.plum_core.specs.History.{AreListed};
 ghost use Rattle.plum.specs.declared.stop.Cause.{Cause};
 ghost use Rattle.plum.specs.Bodies.{IsCause};
 ghost use Rattle.plum.specs.Replayed.{IsReadWhole, IsStoppedAt, FailsWithin};
-ghost use Rattle.plum.specs.Stops.{CountsNothing, CountsStop};
+ghost use Rattle.plum.specs.Stops.{CountsStop};
 
 use crate::stop::{Cause, Stop};
 use plum_base::{Packet, Sites};

@@ -1,13 +1,14 @@
 //! The work of `replay`, for a capture of one segment.
 
-ghost use Rattle.std.specs.Prelude.{◌≡◌, ◌≢◌, ℕ, OnOk, IfErr, IsErrOf};
-ghost use Rattle.plum_host.specs.declared.host.In.{In};
+ghost use Rattle.std.specs.Prelude.{◌≡◌, ℕ, OnOk, IfErr, IsErrOf};
+ghost use Rattle.plum_host.specs.Counting.{CountsNothing};
 ghost use Rattle.plum_host.specs.declared.host.In.TheVariants.{Capture};
+ghost use Rattle.plum_host.specs.Frames.{LeavesOtherInputs};
 ghost use Rattle.plum.specs.declared.stop.Cause.{Cause};
 ghost use Rattle.plum.specs.BuiltIn.{built_in_stations};
 ghost use Rattle.plum.specs.Replayed.{ReplaysCapture, ReadsOneSegment, IsStoppedAt, FailsWithin};
 ghost use Rattle.plum.specs.Replayed.{FailsAtAnEnd, AppendsNothing};
-ghost use Rattle.plum.specs.Stops.{CountsNothing, CountsStop};
+ghost use Rattle.plum.specs.Stops.{CountsStop};
 
 use crate::built_in::{built_in_setup, built_in_sites};
 use crate::packets::read_packets;
@@ -36,8 +37,7 @@ pub fn replay<H: Host>(alloc: Global, host: &mut H) -> Result<(), Stop>
     ensures no_fault { OnOk result (CountsNothing (H.told host.old) (H.told host.new)) }
     ensures fault { IfErr result (λ stop. CountsStop stop (H.told host.old) (H.told host.new)) }
 
-    ensures other_inputs { (other : In) → other ≢ Capture
-        → (H.told host.new).left other ≡ (H.told host.old).left other }
+    ensures other_inputs { LeavesOtherInputs Capture (H.told host.old) (H.told host.new) }
 {
     let setup = built_in_setup();
     let sites = built_in_sites(alloc)?;

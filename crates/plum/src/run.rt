@@ -3,9 +3,9 @@
 ghost use Rattle.std.specs.Prelude.{◌≡◌, ◌≢◌, ◌↔◌, ◌⊎◌, ℕ, List, map, string_bytes, Some, None};
 ghost use Rattle.plum_base.specs.declared.packet.Packet.{Packet};
 ghost use Rattle.plum_base.specs.declared.sites.StationSite.{StationSite};
-ghost use Rattle.plum_host.specs.declared.host.In.{In};
 ghost use Rattle.plum_host.specs.declared.host.In.TheVariants.{Capture};
 ghost use Rattle.plum_host.specs.Faults.{HasRisen};
+ghost use Rattle.plum_host.specs.Frames.{LeavesOtherInputs};
 ghost use Rattle.plum.specs.declared.stop.Cause.{Cause};
 ghost use Rattle.plum.specs.Bodies.{StopsAt};
 ghost use Rattle.plum.specs.BuiltIn.{built_in_stations};
@@ -80,8 +80,7 @@ pub fn run<H: Host>(alloc: Global, words: &[String], host: &mut H) -> Status
     ensures quiet { (result ≡ Status.ReadFault) ⊎ ((n : ℕ) × (result ≡ Status.NotYet n))
         → AppendsNothing (H.told host.old) (H.told host.new) }
 
-    ensures other_inputs { (other : In) → other ≢ Capture
-        → (H.told host.new).left other ≡ (H.told host.old).left other }
+    ensures other_inputs { LeavesOtherInputs Capture (H.told host.old) (H.told host.new) }
 {
     if read_words(words).is_none() {
         return Status::Usage;

@@ -3,7 +3,7 @@
 ghost use Rattle.std.specs.Prelude.{◌≡◌, IfOk};
 ghost use Rattle.plum.specs.Status.{number_of, text_of};
 
-use crate::text::write::{Field, put_line};
+use itoa::Buffer;
 use plum_base::{Bytes, NoMemory};
 use std::alloc::Global;
 
@@ -49,11 +49,9 @@ pub fn status_text(alloc: Global, status: &Status) -> Result<Bytes, NoMemory>
         Status::WriteFault => text.extend(b"plum: write fault\n")?,
         Status::NoMemory => text.extend(b"plum: no memory\n")?,
         Status::NotYet(record) => {
-            put_line(
-                &mut text,
-                b"plum: not yet",
-                &[Field::Number(u64::from(*record))],
-            )?;
+            text.extend(b"plum: not yet ")?;
+            text.extend(Buffer::new().format(*record).as_bytes())?;
+            text.extend(b"\n")?;
         }
     }
     Ok(text)

@@ -8,10 +8,9 @@ ghost use Rattle.plum.specs.BuiltIn.{built_in_sites};
 ghost use Rattle.plum.specs.Replayed.{IsOneSegment, IsReplay};
 
 use crate::packets::Segment;
-use crate::text::journal::entry_lines;
-use crate::text::lines::Counts;
+use crate::text::journal::journal_text;
 use crate::text::output::output_text;
-use plum_base::{Bytes, NoMemory, Setup, Sites};
+use plum_base::{Bytes, Counts, NoMemory, Setup, Sites};
 use plum_core::{history_of, read_area};
 use plum_packet::segments_hold_each_body;
 use std::alloc::Global;
@@ -57,7 +56,7 @@ pub fn texts_of(
     };
     let reading = read_area(alloc, sites, &first.area, &history)?;
     Ok(Texts {
-        journal: entry_lines(alloc, stations, &history)?,
+        journal: journal_text(alloc, stations, &history)?,
         output: output_text(alloc, &first.area, targets, &counts, &reading, segment.tail)?,
     })
 }

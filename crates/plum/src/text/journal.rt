@@ -1,10 +1,10 @@
 //! The journal of a capture of one segment.
 
-ghost use Rattle.std.specs.Prelude.{◌≡◌, IfOk};
-ghost use Rattle.plum.specs.Texts.{code_of_station, entry_lines};
+ghost use Rattle.std.specs.Prelude.{◌≡◌, ◌∷◌, [], ◌<◌, ◌^◌, length, IfOk};
+ghost use Rattle.plum_text.specs.Texts.{code_of_station, journal_text};
 
-use crate::text::lines::put_entry;
 use plum_base::{Bytes, Entry, NoMemory, StationNo, StationSite};
+use plum_text::{JournalLine, write_journal};
 use std::alloc::Global;
 
 /// The code of a station, 0 where it is not listed.
@@ -17,18 +17,26 @@ fn code_of_station(stations: &[StationSite], station: StationNo) -> u16
     }
 }
 
-/// The lines of the entries of segment 1, in order.
-pub fn entry_lines(
+/// The journal of a history that is the one part of segment 1.
+pub fn journal_text(
     alloc: Global,
     stations: &[StationSite],
     history: &[Entry],
 ) -> Result<Bytes, NoMemory>
-    ensures { IfOk result (λ text. text ≡ entry_lines stations.now 1 1 history.now) }
+    requires few { length history.now < 2 ^ 32 }
+    ensures { IfOk result (λ text. text ≡ journal_text stations.now (history.now ∷ [])) }
 {
     let mut text = Bytes::new(alloc)?;
     for (before, entry) in history.iter().enumerate() {
-        let code = code_of_station(stations, entry.station);
-        put_entry(&mut text, before as u64 + 1, 1, code, entry)?;
+        let line = JournalLine {
+            n: before as u32 + 1,
+            segment: 1,
+            station: code_of_station(stations, entry.station),
+            key: entry.key,
+            fresh: entry.fresh,
+            value: entry.value,
+        };
+        write_journal(&mut text, &line)?;
     }
     Ok(text)
 }

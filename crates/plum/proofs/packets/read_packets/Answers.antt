@@ -7,7 +7,7 @@ use Rattle.plum_host.proofs.Frames.{OnlyReads-join}
 use Rattle.plum_packet.specs.Segments.{SEGMENT_BODIES}
 use Rattle.plum_packet.specs.Records.{tail_in}
 use Rattle.plum.specs.declared.stop.Stop.TheVariants as stops
-use Rattle.plum.proofs.Counting.{CountsNothing-join}
+use Rattle.plum_host.proofs.Frames.{CountsNothing-join}
 use Rattle.plum.proofs.Taking.{is_listed, ArePackets-push, stops_at, within_segment}
 use Rattle.plum.proofs.packets.read_packets.Goals as goal
 

@@ -4,7 +4,7 @@ use Rattle.plum_host.specs.Frames.{OnlyReads}
 use Rattle.plum_packet.specs.Segments.{SEGMENT_BODIES}
 use Rattle.plum_packet.specs.Records.{StandsAt}
 use Rattle.plum.specs.Bodies.{ArePackets}
-use Rattle.plum.specs.Stops.{CountsNothing}
+use Rattle.plum_host.specs.Counting.{CountsNothing}
 use Rattle.plum.proofs.Taking.{HasTaken}
 use Rattle.plum.proofs.packets.read_packets.Given as goal
 

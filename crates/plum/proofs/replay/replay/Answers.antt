@@ -3,7 +3,8 @@ use Rattle.plum_host.specs.declared.host.In.TheVariants.{Capture}
 use Rattle.plum_host.specs.declared.host.To.TheVariants.{Out, Journal}
 use Rattle.plum_host.specs.Told.{Appends}
 use Rattle.plum.specs.Replayed.{IsOneSegment}
-use Rattle.plum.proofs.Replaying.{appends_text, outputs_differ, whole_between}
+use Rattle.plum_host.proofs.Pieces.{appends-more}
+use Rattle.plum.proofs.Replaying.{outputs_differ, whole_between}
 use Rattle.plum.proofs.replay.replay.Goals as goal
 
 -- a write that fails after the capture was read
@@ -64,8 +65,7 @@ returns-clause-texts g c = λ capture told.
           c.in_ok-segment.segment.packets.items c.in_ok-segment.segment.tail)
           c.in_ok-sites.ensures.0 whole.0);
       journal_appended = rw (c.put_all-2.ensures.frame.other_output Journal outputs_differ)
-          (appends_text texts.journal ((at c.args.host.now).held Journal)
-          ((at c.write.new.self).held Journal)
-          ((at c.put_all.new.host).held Journal) opened journal);
+          (appends-more ((at c.args.host.now).held Journal) ((at c.write.new.self).held Journal)
+          ((at c.put_all.new.host).held Journal) [] texts.journal opened journal);
       output_appended = output;
     }

@@ -2,7 +2,8 @@ use Rattle.std.proofs.Common.{◌≡◌, [], ◌∷◌, length, ap, subst, ◌�
 use Rattle.std.proofs.lemmas.Option.{same_Some}
 use Rattle.std.specs.Prelude.{slice_get}
 use Rattle.plum_core.specs.History.{IsValidHistory}
-use Rattle.plum_core.specs.Transcript.{targets_of, ArePredictions}
+use Rattle.plum_core.specs.Transcript.{ArePredictions}
+use Rattle.plum_base.specs.Sites.{targets_of}
 use Rattle.plum.specs.BuiltIn.{built_in_stations, built_in_targets}
 use Rattle.plum.proofs.Replaying.{length-HoldsKept, replay_of}
 use Rattle.plum.proofs.texts.texts_of.Goals as goal
@@ -29,6 +30,14 @@ overflow_sub-counts c =
       fewer,
     )
 
+-- so the positions of its journal fit
+pub journal_text-requires : goal.journal_text-requires
+journal_text-requires c =
+    let packets = c.args.segment.packets.items in
+    let fewer =
+    length-HoldsKept c.in_ok-history.history.items packets c.in_ok-history.ensures.complete in
+    omega (arith, c.requires.few, fewer, ap length c.deref-2.ensures.value)
+
 -- the two texts are those of the one transcript over the history
 pub returns : goal.returns
 returns c = λ capture segment.
@@ -44,8 +53,8 @@ returns c = λ capture segment.
     ≡ 97 ∷ [] = ap (λ t. t.area) (same_Some c.in-Some.first.now _
     (c.in-Some.ensures.value ∙ ap (λ ts. slice_get ts 0) targets)) in
     replay_of setup c.requires.setup capture packets c.args.segment.tail segment
-    c.segments_hold_each_body.ensures.one history c.in_ok-reading.reading _
-    c.in_ok-entry_lines.field-0 c.in_ok-output_text.field-0
+    c.segments_hold_each_body.ensures.one _ _ stations targets history c.in_ok-reading.reading _
+    c.in_ok-journal_text.field-0 c.in_ok-output_text.field-0
     (subst (λ sites. IsValidHistory setup (length sites) history) c.requires.stations
     c.in_ok-history.ensures.valid)
     c.in_ok-history.ensures.complete
@@ -61,5 +70,5 @@ returns c = λ capture segment.
       c.args.segment.packets.ok.0,
       c.in_ok-history.history.ok.0,
     ))
-    (rw (stations, c.deref-2.ensures.value) at c.in_ok-entry_lines.ensures)
-    (rw targets at c.in_ok-output_text.ensures)
+    (rw c.deref-2.ensures.value at c.in_ok-journal_text.ensures)
+    c.in_ok-output_text.ensures

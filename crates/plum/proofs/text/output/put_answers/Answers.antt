@@ -7,7 +7,8 @@ loop-target-preserved c =
     let more = Zip-more c.loop-target.target-iterator c.next.new.self c.next.result
     (c.in-Some.target, c.in-Some.answer) c.in-Some.is c.next.ensures.steps in
     one_line_more c.args.m c.in-Some.target.now c.in-Some.answer.now _ _ _ _ c.loop-target.out
-    c.put_answer.new.out _ more.0 more.1 c.in_ok-put_answer.ensures c.loop-target.invariant
+    c.write_out.new.out _ more.0 more.1
+    (rw c.answer_line.ensures at c.in_ok-write_out.ensures.ok) c.loop-target.invariant
 
 pub returns : goal.returns
 returns c =
