@@ -1,16 +1,14 @@
 //! A reader of records over a host in memory.
 
-use plum_base::Bytes;
-use plum_host::{MemFiles, MemHost};
+use plum_base::{Bytes, NoMemory};
+use plum_host::{Host, MemFiles, MemHost};
 use plum_packet::{Body, Records, RecordsFault};
+use std::alloc::Global;
+use std::process::Abort;
 use std::test::Fail;
 
-/// A fourth mark stands behind the three records that a reader of three gives.
-#[test]
-fn file_and_record_limits(rt: HostRuntime) -> Result<(), Fail> {
-    let alloc = rt.alloc();
-    let mut capture = Bytes::new(alloc)?;
-    capture.extend(b"\x00\x02MK\x00\x02MK\x00\x02MK\x00\x02MK")?;
+/// A sound host with this capture, its other inputs empty.
+fn host_of(alloc: Global, capture: Bytes) -> Result<MemHost, NoMemory> {
     let files = MemFiles {
         setup: Bytes::new(alloc)?,
         stations: Bytes::new(alloc)?,
@@ -19,16 +17,33 @@ fn file_and_record_limits(rt: HostRuntime) -> Result<(), Fail> {
         journal: Bytes::new(alloc)?,
         output: Bytes::new(alloc)?,
     };
-    let mut host = MemHost::sound(alloc, files)?;
-    let mut records = Records::new(alloc, 3)?;
+    MemHost::sound(alloc, files)
+}
+
+fn four_marks(alloc: Global) -> Result<Bytes, NoMemory> {
+    let mut capture = Bytes::new(alloc)?;
+    for _ in 0..4 {
+        capture.extend(&[0, 2, b'M', b'K'])?;
+    }
+    Ok(capture)
+}
+
+/// The reader gives three records, and then answers its limit for good.
+fn expect_three<H: Host>(rt: &impl Abort, records: &mut Records, host: &mut H) {
     for number in 1..4 {
-        assert_eq!(rt;
-            records.next(&mut host),
-            Ok(Some(Body { number, mark: true }))
-        );
+        assert!(rt; records.next(host) == Ok(Some(Body { number, mark: true })));
     }
     for _ in 0..2 {
-        assert_eq!(rt; records.next(&mut host), Err(RecordsFault::Limit));
+        assert!(rt; records.next(host) == Err(RecordsFault::Limit));
     }
+}
+
+/// A fourth mark stands behind the three records that a reader of three gives.
+#[test]
+fn file_and_record_limits(rt: HostRuntime) -> Result<(), Fail> {
+    let alloc = rt.alloc();
+    let mut host = host_of(alloc, four_marks(alloc)?)?;
+    let mut records = Records::new(alloc, 3)?;
+    expect_three(&rt, &mut records, &mut host);
     Ok(())
 }

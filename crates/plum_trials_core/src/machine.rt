@@ -13,33 +13,47 @@ use std::alloc::Global;
 use std::process::Abort;
 use std::test::Fail;
 
-/// Stations and targets at these y, in metres, each target in the area of this name.
+/// Stations at these y, in metres, their codes from 0.
+fn stations_at(alloc: Global, places: &[i32]) -> Result<Vec<StationSite>, Fail> {
+    let mut stations = Vec::new(alloc);
+    for (code, y) in places.iter().enumerate() {
+        stations.push(StationSite {
+            code: u16::try_from(code).ok().ok_or("a code")?,
+            at: Point { x: 0, y: *y },
+            factor: Tenths(0),
+        })?;
+    }
+    Ok(stations)
+}
+
+fn name_of(text: &str) -> Result<Name, Fail> {
+    Ok(Name::read(text.as_bytes()).ok_or("a name")?)
+}
+
+/// Targets of these names, in the areas of these names and at these y, in metres.
+fn targets_at(alloc: Global, places: &[(&str, &str, i32)]) -> Result<Vec<TargetSite>, Fail> {
+    let mut targets = Vec::new(alloc);
+    for (name, area, y) in places {
+        targets.push(TargetSite {
+            name: name_of(name)?,
+            area: name_of(area)?,
+            at: Point { x: 0, y: *y },
+            factor: Tenths(0),
+        })?;
+    }
+    Ok(targets)
+}
+
 fn sites_of(
     rt: &impl Abort,
     alloc: Global,
     stations: &[i32],
     targets: &[(&str, &str, i32)],
 ) -> Result<Sites, Fail> {
-    let factor = Tenths(0);
-    let mut station_sites = Vec::new(alloc);
-    for (code, y) in stations.iter().enumerate() {
-        station_sites.push(StationSite {
-            code: u16::try_from(code).ok().ok_or("a code")?,
-            at: Point { x: 0, y: *y },
-            factor,
-        })?;
-    }
-    let mut target_sites = Vec::new(alloc);
-    for (name, area, y) in targets {
-        target_sites.push(TargetSite {
-            name: Name::read(name.as_bytes()).ok_or("a name")?,
-            area: Name::read(area.as_bytes()).ok_or("a name")?,
-            at: Point { x: 0, y: *y },
-            factor,
-        })?;
-    }
-    assert!(rt; lawful(station_sites.as_slice(), target_sites.as_slice()));
-    Ok(Sites::new(alloc, station_sites, target_sites)?)
+    let stations = stations_at(alloc, stations)?;
+    let targets = targets_at(alloc, targets)?;
+    assert!(rt; lawful(stations.as_slice(), targets.as_slice()));
+    Ok(Sites::new(alloc, stations, targets)?)
 }
 
 /// A packet of a station: boot 0, this number, and equal samples along x.

@@ -1,7 +1,7 @@
 //! The setup of the worked rows, and waves of equal samples.
 
 ghost use Rattle.std.specs.Prelude.{◌≡◌, ◌≤◌, IfOk};
-ghost use Rattle.plum_base.specs.Setup.{IsGain};
+ghost use Rattle.plum_base.specs.Setup.{IsGain, IsLaneCount, IsQueueBound};
 ghost use Rattle.plum_engine.specs.Engine.{pass_through};
 
 use arrayvec::ArrayVec;
@@ -20,8 +20,8 @@ pub const THRESHOLDS: [u64; 4] = [0, 100, 400, 900];
 /// A setup whose cascade passes its input through, and whose level 0 stands for 2.0.
 pub fn setup_of(gain: Gain, thresholds: &[u64], lanes: u16, queue: u32) -> Result<Setup, Fail>
     requires gain { IsGain gain.g gain.h }
-    requires lanes { (1 ≤ lanes) × (lanes ≤ 16) }
-    requires queue { (1 ≤ queue) × (queue ≤ 65536) }
+    requires lanes { IsLaneCount lanes }
+    requires queue { IsQueueBound queue }
     ensures { IfOk result (λ setup. setup.cascade ≡ pass_through) }
 {
     let mut stages = ArrayVec::new();

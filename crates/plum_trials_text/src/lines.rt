@@ -1,0 +1,193 @@
+//! Lines at the ends of their fields' ranges, and all bytes that stand next to them.
+
+use plum_base::{Alert, Bytes, Class, Key, Name, PacketFault, Tenths};
+use plum_text::{JournalLine, OutLine, read_journal, read_out, write_journal, write_out};
+use std::alloc::Global;
+use std::process::Abort;
+use std::test::Fail;
+
+/// Whether what is read of these bytes is the one line that has them, or none.
+fn reads_one_line(alloc: Global, bytes: &[u8]) -> Result<bool, Fail> {
+    let mut journal = Bytes::new(alloc)?;
+    if let Some(line) = read_journal(bytes) {
+        write_journal(&mut journal, &line)?;
+    }
+    let mut output = Bytes::new(alloc)?;
+    if let Some(line) = read_out(bytes) {
+        write_out(&mut output, &line)?;
+    }
+    let is_one = |text: &[u8]| text.is_empty() || text == bytes;
+    Ok(is_one(journal.as_slice()) && is_one(output.as_slice()))
+}
+
+/// The bytes with what stands at `at` changed in each way, dropped, and doubled.
+fn expect_one_line_nearby(rt: &impl Abort, alloc: Global, bytes: &[u8]) -> Result<(), Fail> {
+    for at in 0..bytes.len() {
+        let mut other = Vec::from_slice(alloc, bytes)?;
+        for byte in 0..=u8::MAX {
+            other[at] = byte;
+            assert!(rt; reads_one_line(alloc, other.as_slice())?);
+        }
+        let (front, rest) = bytes.split_at(at);
+        let mut dropped = Vec::from_slice(alloc, front)?;
+        dropped.extend_from_slice(&rest[1..])?;
+        assert!(rt; reads_one_line(alloc, dropped.as_slice())?);
+        let mut doubled = Vec::from_slice(alloc, &bytes[..=at])?;
+        doubled.extend_from_slice(rest)?;
+        assert!(rt; reads_one_line(alloc, doubled.as_slice())?);
+    }
+    Ok(())
+}
+
+/// The line is written as these bytes and read back.
+fn expect_out(rt: &impl Abort, alloc: Global, line: OutLine, bytes: &[u8]) -> Result<(), Fail> {
+    let mut text = Bytes::new(alloc)?;
+    write_out(&mut text, &line)?;
+    assert!(rt; text.as_slice() == bytes);
+    assert!(rt; read_out(bytes) == Some(line));
+    expect_one_line_nearby(rt, alloc, bytes)
+}
+
+fn expect_journal(
+    rt: &impl Abort,
+    alloc: Global,
+    line: JournalLine,
+    bytes: &[u8],
+) -> Result<(), Fail> {
+    let mut text = Bytes::new(alloc)?;
+    write_journal(&mut text, &line)?;
+    assert!(rt; text.as_slice() == bytes);
+    assert!(rt; read_journal(bytes) == Some(line));
+    expect_one_line_nearby(rt, alloc, bytes)
+}
+
+#[test]
+fn journal_lines(rt: HostRuntime) -> Result<(), Fail> {
+    let least = JournalLine {
+        n: 1,
+        segment: 1,
+        station: 1,
+        key: Key { boot: 0, number: 0 },
+        fresh: true,
+        value: None,
+    };
+    expect_journal(&rt, rt.alloc(), least, b"E 1 1 1 0 0 F -\n")?;
+    let greatest = JournalLine {
+        n: u32::MAX,
+        segment: u32::MAX,
+        station: u16::MAX,
+        key: Key {
+            boot: u16::MAX,
+            number: u32::MAX,
+        },
+        fresh: false,
+        value: Some(Tenths(i16::MIN)),
+    };
+    let bytes = b"E 4294967295 4294967295 65535 65535 4294967295 C -3276.8\n";
+    expect_journal(&rt, rt.alloc(), greatest, bytes)
+}
+
+#[test]
+fn marks_and_totals(rt: HostRuntime) -> Result<(), Fail> {
+    let line = OutLine::Mark {
+        m: 0,
+        bodies: 0,
+        kept: 0,
+        repeats: 0,
+        refused: 0,
+    };
+    expect_out(&rt, rt.alloc(), line, b"M 0 0 0 0 0\n")?;
+    let line = OutLine::Totals {
+        segments: u32::MAX,
+        bodies: u32::MAX,
+        kept: u32::MAX,
+        repeats: u32::MAX,
+        refused: u32::MAX,
+    };
+    expect_out(
+        &rt,
+        rt.alloc(),
+        line,
+        b"Z 4294967295 4294967295 4294967295 4294967295 4294967295\n",
+    )?;
+    let line = OutLine::Tail { bytes: u32::MAX };
+    expect_out(&rt, rt.alloc(), line, b"T 4294967295\n")
+}
+
+#[test]
+fn refused_bodies(rt: HostRuntime) -> Result<(), Fail> {
+    let faults: [(PacketFault, &[u8]); 7] = [
+        (PacketFault::Short, b"X 4294967295 P1\n"),
+        (PacketFault::Magic, b"X 4294967295 P2\n"),
+        (PacketFault::Version(u8::MAX), b"X 4294967295 P3 255\n"),
+        (PacketFault::Flags(u8::MAX), b"X 4294967295 P4 255\n"),
+        (PacketFault::Station(u16::MAX), b"X 4294967295 P5 65535\n"),
+        (PacketFault::Count(0), b"X 4294967295 P6 0\n"),
+        (
+            PacketFault::Length {
+                expected: 0,
+                found: u32::MAX,
+            },
+            b"X 4294967295 P7 0 4294967295\n",
+        ),
+    ];
+    for (fault, bytes) in faults.iter() {
+        let line = OutLine::Refused {
+            number: u32::MAX,
+            fault: *fault,
+        };
+        expect_out(&rt, rt.alloc(), line, bytes)?;
+    }
+    Ok(())
+}
+
+#[test]
+fn readings_and_answers(rt: HostRuntime) -> Result<(), Fail> {
+    let line = OutLine::Reading {
+        m: 1,
+        area: Name::read(b"_").ok_or("a name")?,
+        front: u64::MAX,
+    };
+    expect_out(&rt, rt.alloc(), line, b"R 1 _ 18446744073709551615\n")?;
+    let line = OutLine::Answer {
+        m: u32::MAX,
+        target: Name::read(b"ABCDEFGHIJKLMNOP").ok_or("a name")?,
+        value: Some(Tenths(i16::MAX)),
+        class: Some(Class::C6Upper),
+    };
+    expect_out(
+        &rt,
+        rt.alloc(),
+        line,
+        b"P 4294967295 ABCDEFGHIJKLMNOP 3276.7 6+\n",
+    )?;
+    let line = OutLine::Answer {
+        m: 1,
+        target: Name::read(b"t1").ok_or("a name")?,
+        value: Some(Tenths(-3)),
+        class: None,
+    };
+    expect_out(&rt, rt.alloc(), line, b"P 1 t1 -0.3 -\n")
+}
+
+#[test]
+fn alerts(rt: HostRuntime) -> Result<(), Fail> {
+    let line = OutLine::Alert {
+        m: 2,
+        area: Name::read(b"a").ok_or("a name")?,
+        alert: Alert::Raise(Class::C5Lower),
+    };
+    expect_out(&rt, rt.alloc(), line, b"A 2 a raise 5-\n")?;
+    let line = OutLine::Alert {
+        m: 2,
+        area: Name::read(b"z9").ok_or("a name")?,
+        alert: Alert::Upgrade(Class::C7),
+    };
+    expect_out(&rt, rt.alloc(), line, b"A 2 z9 upgrade 7\n")?;
+    let line = OutLine::Alert {
+        m: u32::MAX,
+        area: Name::read(b"a").ok_or("a name")?,
+        alert: Alert::Cancel,
+    };
+    expect_out(&rt, rt.alloc(), line, b"A 4294967295 a cancel\n")
+}
