@@ -13,13 +13,13 @@ use Rattle.plum_packet.specs.Laws.{EachIsCapture, OneCapture, TailIsShort, RowGo
 use Rattle.plum_packet.proofs.Spelling.{no_record, whole_record, same_record}
 
 -- each of the bytes is below 256, and so is 0 past them
-byte : (bytes : List ℕ) (i : ℕ) → AreBytes bytes → get_or bytes i 0 < 256
+pub byte : (bytes : List ℕ) (i : ℕ) → AreBytes bytes → get_or bytes i 0 < 256
 byte [] i are = omega arith
 byte (b ∷ bytes) zero are = are.0
 byte (b ∷ bytes) (suc i) are = byte bytes i are.1
 
 -- what is left of bytes are bytes
-AreBytes-drop : (n : ℕ) (bytes : List ℕ) → AreBytes bytes → AreBytes (drop n bytes)
+pub AreBytes-drop : (n : ℕ) (bytes : List ℕ) → AreBytes bytes → AreBytes (drop n bytes)
 AreBytes-drop zero bytes are = are
 AreBytes-drop (suc n) [] are = tt
 AreBytes-drop (suc n) (b ∷ bytes) are = AreBytes-drop n bytes are.1

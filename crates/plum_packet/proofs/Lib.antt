@@ -5,3 +5,5 @@ pub mod Fields
 pub mod FirstFault
 pub mod Samples
 pub mod Cuts
+pub mod Writing
+pub mod OneBody

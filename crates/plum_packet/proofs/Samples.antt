@@ -12,11 +12,11 @@ use Rattle.plum_packet.specs.Body.{number_at, signed_at, sample_at}
 use Rattle.plum_packet.proofs.Fields.{number_of-rest}
 
 -- what a cast makes of the bits is what two's complement says of them
-cast_signed-word : (n : ℕ) → n < 2 ^ 32 → cast_signed w32 n ≡ twos_complement 4 n
+pub cast_signed-word : (n : ℕ) → n < 2 ^ 32 → cast_signed w32 n ≡ twos_complement 4 n
 cast_signed-word n h = grind (arith, ints)
 
 -- four bytes are a number of 32 bits
-word_fits : (offset : ℕ) (body : List ℕ) → ((i : ℕ) → get_or body i 0 < 256)
+pub word_fits : (offset : ℕ) (body : List ℕ) → ((i : ℕ) → get_or body i 0 < 256)
     → number_at offset 4 body < 2 ^ 32
 word_fits offset body bytes = big_from-lt 0 4 (drop offset body)
     (λ i. let e = get_or-drop offset body i 0 in let h = bytes (offset + i) in omega arith)
