@@ -1,7 +1,7 @@
 //! The classes of the JMA scale, and the texts of classes and of intensities.
 //!
-//! It promises the class of each intensity, and texts that are read back as what they were. It must
-//! not know what a line is.
+//! It promises the class of each intensity, texts that tell one class or one intensity, and that
+//! the text of a class is read back as that class. It must not know what a line is.
 #![tactic(auto)]
 
 mod class;

@@ -9,3 +9,4 @@ pub mod OneArea
 pub mod OneSection
 pub mod LineParts
 pub mod Magnitudes
+pub mod Saying

@@ -3,7 +3,8 @@ use Rattle.std.proofs.Common.{◌≡◌, ◌≢◌, ℕ, ◌<◌, List, [], ◌�
 use Rattle.std.proofs.Common.{◌∙◌, arith, append_assoc, length-append}
 use Rattle.std.proofs.lemmas.List.Elements.{recursion_from_All}
 use Rattle.std.specs.List.{AllByRecursion, flat_map}
-use Rattle.plum_text.specs.Fields.{fields, HasNoLineFeed}
+use Rattle.plum_text.specs.Fields.{fields}
+use Rattle.plum_text.proofs.Words.{HasNoLineFeed}
 use Rattle.plum_text.proofs.Cuts.{Lacks, same_up_to, lacks_each}
 
 -- two texts after one another lack what both lack

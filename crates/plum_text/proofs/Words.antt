@@ -24,11 +24,15 @@ use Rattle.plum_text.specs.declared.lines.JournalLine.{JournalLine}
 use Rattle.plum_text.specs.declared.lines.OutLine.{OutLine}
 use Rattle.plum_text.specs.declared.lines.OutLine.TheVariants.{Mark, Refused, Reading, Answer}
 use Rattle.plum_text.specs.declared.lines.OutLine.TheVariants.{Alert as AlertLine, Tail, Totals}
-use Rattle.plum_text.specs.Fields.{line, fields, HasNoSpace, HasNoLineFeed, FitsValue, FitsFault}
+use Rattle.plum_text.specs.Fields.{line, fields, HasNoSpace, FitsValue, FitsFault}
 use Rattle.plum_text.specs.Fields.{value_text, class_or_none_text, run_text, fault_fields}
 use Rattle.plum_text.specs.Fields.{alert_fields}
 use Rattle.plum_text.specs.Lines.{journal_fields, FitsJournal, kind_of, out_fields, FitsOut}
 use Rattle.plum_text.proofs.Cuts.{same_up_to, fields_begin, one_cut, lacks_each}
+
+-- No line feed stands in the field, so that its line ends where the next begins.
+abbrev pub HasNoLineFeed : List ℕ → Type 0
+HasNoLineFeed field = All (λ b. b ≢ 10) field
 
 -- A line has one cut into words.
 pub one_line : (kind other : List ℕ) (more others : List (List ℕ)) → HasNoSpace kind

@@ -26,10 +26,6 @@ line kind more = kind ++ fields more ++ 10 ∷ []
 abbrev pub HasNoSpace : List ℕ → Type 0
 HasNoSpace field = All (λ b. b ≢ 32) field
 
--- No line feed stands in the field, so that its line ends where the next begins.
-abbrev pub HasNoLineFeed : List ℕ → Type 0
-HasNoLineFeed field = All (λ b. b ≢ 10) field
-
 -- a value, or `-`
 abbrev pub value_text : Option Tenths → List ℕ
 value_text None = codes "-"

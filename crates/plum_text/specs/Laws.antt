@@ -1,12 +1,17 @@
 -- What lines and texts tell: all that stands in them.
-use Rattle.std.specs.Prelude.{◌≡◌, ◌≢◌, ◌<◌, ℕ, List, length, All, AllPairs}
+use Rattle.std.specs.Prelude.{◌≡◌, ◌≢◌, ◌+◌, ◌<◌, ◌≤◌, ℕ, ⊤, List, length, slice_get, All, AllPairs}
+use Rattle.std.specs.Prelude.{Some, option_map}
+use Rattle.std.specs.List.{AllByRecursion}
+use Rattle.plum_scale.specs.Classes.{class_of}
+use Rattle.plum_text.specs.declared.lines.OutLine.TheVariants.{Mark, Reading, Answer, Alert, Totals}
 use Rattle.plum_base.specs.declared.entry.Entry.{Entry}
 use Rattle.plum_base.specs.declared.sites.StationSite.{StationSite}
 use Rattle.plum_base.specs.declared.sites.TargetSite.{TargetSite}
 use Rattle.plum_text.specs.declared.lines.JournalLine.{JournalLine}
 use Rattle.plum_text.specs.declared.lines.OutLine.{OutLine}
 use Rattle.plum_text.specs.Lines.{IsJournalLine, FitsJournal, IsOutLine, FitsOut}
-use Rattle.plum_text.specs.Texts.{Section, IsWhole, notes_from, journal_lines, journal_text}
+use Rattle.plum_text.specs.Texts.{Section, AddUp, IsWhole, notes_from, journal_lines}
+use Rattle.plum_text.specs.Texts.{journal_text}
 use Rattle.plum_text.specs.Texts.{out_lines, out_text}
 
 -- The bytes of a line determine its fields.
@@ -46,3 +51,41 @@ OutputTells = (targets : List TargetSite) (sections others : List Section) (tail
     → SectionsCanBeTold targets sections tail → SectionsCanBeTold targets others other_tail
     → out_text targets sections tail ≡ out_text targets others other_tail
     → (sections ≡ others) × (tail ≡ other_tail)
+
+-- In the line of an answer the class is that of the value.
+abbrev pub SaysItsClass : OutLine → Type 0
+SaysItsClass (Answer m target value class) = class ≡ option_map class_of value
+SaysItsClass l = ⊤
+
+abbrev pub ClassesAreOfValues : Type 0
+ClassesAreOfValues = (targets : List TargetSite) (sections : List Section) (tail : ℕ)
+    → All SaysItsClass (out_lines targets sections tail)
+
+-- In a line of counts each body is counted once.
+abbrev pub SaysItsSum : OutLine → Type 0
+SaysItsSum (Mark m bodies kept repeats refused) = bodies ≡ kept + repeats + refused
+SaysItsSum (Totals segments bodies kept repeats refused) = bodies ≡ kept + repeats + refused
+SaysItsSum l = ⊤
+
+abbrev pub SumsAddUp : Type 0
+SumsAddUp = (targets : List TargetSite) (sections : List Section) (tail : ℕ)
+    → AllByRecursion (λ s. AddUp s.counts) sections
+    → All SaysItsSum (out_lines targets sections tail)
+
+-- The mark that a line tells of, where it tells of one, is from 1 to the last.
+abbrev pub IsOfMarkTo : ℕ → OutLine → Type 0
+IsOfMarkTo last (Mark m bodies kept repeats refused) = (1 ≤ m) × (m ≤ last)
+IsOfMarkTo last (Reading m area front) = (1 ≤ m) × (m ≤ last)
+IsOfMarkTo last (Answer m target value class) = (1 ≤ m) × (m ≤ last)
+IsOfMarkTo last (Alert m area alert) = (1 ≤ m) × (m ≤ last)
+IsOfMarkTo last l = ⊤
+
+abbrev pub MarksFromOne : Type 0
+MarksFromOne = (targets : List TargetSite) (sections : List Section) (tail : ℕ)
+    → All (IsOfMarkTo (length sections)) (out_lines targets sections tail)
+
+-- The k-th line of a journal, from 0, has the position k + 1, and its segment is from 1.
+abbrev pub PositionsFromOne : Type 0
+PositionsFromOne = (stations : List StationSite) (parts : List (List Entry)) (k : ℕ)
+    (l : JournalLine) → slice_get (journal_lines stations parts) k ≡ Some l
+    → (l.n ≡ k + 1) × (1 ≤ l.segment)

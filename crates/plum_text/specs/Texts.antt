@@ -65,6 +65,10 @@ journal_lines stations parts = lines_from stations 1 (notes_from 1 parts)
 abbrev pub journal_text : List StationSite → List (List Entry) → List ℕ
 journal_text stations parts = flat_map journal_line (journal_lines stations parts)
 
+-- Each body is counted once: it is kept, a repeat, or refused.
+abbrev pub AddUp : Counts → Type 0
+AddUp counts = counts.bodies ≡ counts.kept + counts.repeats + counts.refused
+
 -- What the output tells at a mark: the counts of its segment, the refused bodies in it, each with
 -- the number of its record, and for each area a reading and an alert or none.
 pub record Section : Type 0 where

@@ -12,7 +12,7 @@ mod read;
 mod spell;
 mod write;
 
-pub use laws::{lines_tell_their_fields, texts_tell_a_run};
+pub use laws::{lines_of_texts, lines_tell_their_fields, texts_tell_a_run};
 pub use lines::{JournalLine, OutLine, PlainLine};
 pub use read::{read_journal, read_out};
 pub use write::{write_journal, write_out, write_plain};
