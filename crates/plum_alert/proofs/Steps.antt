@@ -102,6 +102,11 @@ if-none true own is = inr (sym is)
 if-none false own is = inl refl
 
 -- a class that is above another
+pub up_to-calm : (b : Bool) (calm next most : ℕ) → next ≡ (if b then calm + 1 else 0)
+    → suc calm ≤ most → next ≤ most
+up_to-calm true calm next most is below = omega arith
+up_to-calm false calm next most is below = omega arith
+
 pub above-some : (own : Option Class) (stands above : Class)
     → Some above ≡ (if is_above own stands then own else None)
     → (own ≡ Some above) × (is_above (Some above) stands ≡ true)
@@ -202,9 +207,9 @@ module _ (rules : Rules) (given : List Reading) (reading : Reading) where
         (calm_one (is_below class rules.cancel) calm next next-is (omega arith)) cancel-in)))
 
     -- Any other leaves it.
-    pub next-stays : is_above class stands ≡ false → next ≢ rules.calm
+    pub next-stays : is_above class stands ≡ false → next ≢ rules.calm → next ≤ rules.calm
         → Tells rules given reading (record { rules = rules; standing = AlertAt stands next }) None
-    next-stays not_above not_full =
+    next-stays not_above not_full within =
         Tells-alert rules given reading None (Some stands) alert.0
         (rw (← class-is, not_above, ← calm-next class calm next class-is alert.1 next-is)
         (grind (arith, nat_tests)))

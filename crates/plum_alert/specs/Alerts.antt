@@ -1,5 +1,5 @@
 -- The alerts of an area's readings, over the whole list of them (the project's own rules).
-use Rattle.std.specs.Prelude.{◌≡◌, ℕ, ◌&&◌, ◌==◌, List, [], ◌∷◌, ◌++◌, length, take, reverse}
+use Rattle.std.specs.Prelude.{◌≡◌, ℕ, ◌&&◌, nat_lt, List, [], ◌∷◌, ◌++◌, length, take, reverse}
 use Rattle.std.specs.Prelude.{slice_get, Option, Some, None, if◌then◌else◌, option_map}
 use Rattle.std.specs.Prelude.{option_and_then}
 use Rattle.std.specs.List.{last_or, take_while}
@@ -42,7 +42,8 @@ alert_at rules None earlier reading =
 alert_at rules (Some stands) earlier reading =
     if is_above (class_of_reading reading) stands
     then option_map Upgrade (class_of_reading reading)
-    else if calm_in_a_row rules (earlier ++ reading ∷ []) == rules.calm then Some Cancel else None
+    else if nat_lt (calm_in_a_row rules (earlier ++ reading ∷ [])) rules.calm
+    then None else Some Cancel
 
 -- These are the alerts of these readings: one or none for each, by what stands after those before
 -- it.

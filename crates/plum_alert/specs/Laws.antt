@@ -1,5 +1,5 @@
 -- What holds of readings and their alerts.
-use Rattle.std.specs.Prelude.{◌≡◌, ◌↔◌, List, Option}
+use Rattle.std.specs.Prelude.{◌≡◌, ◌↔◌, List, [], ◌∷◌, Option, None}
 use Rattle.plum_base.specs.declared.answers.Reading.{Reading}
 use Rattle.plum_base.specs.declared.numbers.Tenths.{Tenths}
 use Rattle.plum_base.specs.declared.rules.Alert.{Alert}
@@ -11,6 +11,11 @@ use Rattle.plum_alert.specs.Alerts.{AreAlerts, alerts_of}
 abbrev pub GreatestIs : Type 0
 GreatestIs = (answers : List (Option Tenths)) (greatest : Option Tenths)
     → IsGreatest answers greatest ↔ (greatest ≡ greatest_of answers)
+
+-- The first reading gives no alert.
+abbrev pub FirstGivesNone : Type 0
+FirstGivesNone = (rules : Rules) (reading : Reading)
+    → alerts_of rules (reading ∷ []) ≡ None ∷ []
 
 -- Readings have one list of alerts, and the function gives it.
 abbrev pub OneListOfAlerts : Type 0

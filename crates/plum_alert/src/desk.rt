@@ -3,10 +3,9 @@
 ghost use Rattle.std.specs.Prelude.{◌≡◌, ◌+◌, ◌<◌, ◌≤◌, ◌&&◌, if◌then◌else◌, List, [], ◌∷◌, ◌++◌};
 ghost use Rattle.plum_base.specs.declared.answers.Reading.{Reading};
 ghost use Rattle.plum_base.specs.declared.rules.Rules.{Rules};
-ghost use Rattle.plum_base.specs.Setup.{rank_of};
 ghost use Rattle.plum_alert.specs.Alerts.{alerts_of};
 ghost use Rattle.plum_alert.specs.Readings.{class_of_reading, is_below, reaches};
-ghost use Rattle.plum_alert.specs.Desk.{StandsFor, Tells};
+ghost use Rattle.plum_alert.specs.Desk.{AreDeskRules, StandsFor, Tells};
 
 use crate::readings::{above, class_of_reading, is_below, reaches};
 use plum_base::{Alert, Class, Reading, Rules};
@@ -29,24 +28,19 @@ pub struct Desk {
 }
 
 impl Model for Desk {
-    ghost use Rattle.std.specs.Prelude.{◌≤◌};
-    ghost use Rattle.plum_base.specs.Setup.{rank_of};
-    ghost use Rattle.plum_alert.specs.Desk.{DeskView, IsWithin};
+    ghost use Rattle.plum_alert.specs.Desk.{DeskView, AreDeskRules, IsWithin};
 
     ghost Value = { DeskView };
 
     ghost view = { λ d. record { rules = d.rules; standing = d.standing } };
 
-    ghost invariant = { λ d. (rank_of d.rules.cancel ≤ rank_of d.rules.raise)
-        × (1 ≤ d.rules.calm)
-        × IsWithin d.rules d.standing };
+    ghost invariant = { λ d. AreDeskRules d.rules × IsWithin d.rules d.standing };
 }
 
 impl Desk {
     /// The desk of an area that had no reading yet.
     pub fn new(rules: &Rules) -> Desk
-        requires cancel { rank_of rules.now.cancel ≤ rank_of rules.now.raise }
-        requires calm { 1 ≤ rules.now.calm }
+        requires { AreDeskRules rules.now }
         ensures { StandsFor result rules.now [] }
     {
         Desk {

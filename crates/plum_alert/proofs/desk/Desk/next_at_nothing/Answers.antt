@@ -15,7 +15,7 @@ returns-in-Some c = λ rules given reading desk is.
     (Some (Raise c.in-Some.class)) (ap (λ d. d.rules) c.self.view_is ∙ desk.same_rules)
     (subst (IsStanding rules given) c.requires desk.stands)
     (λ quiet. next-raise own given reading c.args.reached quiet c.in-Some.class
-    (sym raises.0 ∙ is) raises.1 c.self.invariant.0)
+    (sym raises.0 ∙ is) raises.1 c.self.invariant.0.0)
 
 pub returns-in-None : goal.returns-in-None
 returns-in-None c = λ rules given reading desk is.
