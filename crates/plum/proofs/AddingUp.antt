@@ -10,8 +10,9 @@ use Rattle.plum_base.specs.declared.packet.Packet.{Packet}
 use Rattle.plum_base.specs.declared.packet.PacketFault.{PacketFault}
 use Rattle.plum_seq.specs.Keys.{is_kept, kept_after}
 use Rattle.plum_packet.specs.Segments.{packets_in, refused_in}
-use Rattle.plum_text.specs.Texts.{Section, totals_of}
-use Rattle.plum.specs.Texts.{counts_of, section_of, sections_from, AddUp}
+use Rattle.plum_text.specs.Texts.{Section, totals_of, AddUp}
+use Rattle.plum_text.proofs.Saying.{totals_more}
+use Rattle.plum.specs.Texts.{counts_of, section_of, sections_from}
 use Rattle.plum_core.specs.Transcript.{kept_in_segments_after}
 
 -- no more packets are kept than there are
@@ -49,18 +50,6 @@ segment_adds_up segment earlier = omega (
 bodies_more : (s : Section) (sections : List Section)
     → (totals_of (s ∷ sections)).bodies ≡ s.counts.bodies + (totals_of sections).bodies
 bodies_more s sections = sum_by-cons (λ (s : Section). s.counts.bodies) s sections
-
-totals_more : (s : Section) (sections : List Section) → AddUp s.counts → AddUp (totals_of sections)
-    → AddUp (totals_of (s ∷ sections))
-totals_more s sections one more = omega (
-  arith,
-  one,
-  more,
-  sum_by-cons (λ (s : Section). s.counts.bodies) s sections,
-  sum_by-cons (λ (s : Section). s.counts.kept) s sections,
-  sum_by-cons (λ (s : Section). s.counts.repeats) s sections,
-  sum_by-cons (λ (s : Section). s.counts.refused) s sections,
-)
 
 -- the sections of these segments, which come after earlier packets
 abbrev sections_after : List Packet → List (List (ℕ × Result Packet PacketFault))

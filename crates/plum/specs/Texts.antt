@@ -1,5 +1,5 @@
 -- What a replay counts, and the sections of its output.
-use Rattle.std.specs.Prelude.{◌≡◌, ℕ, ◌+◌, ◌-◌, List, [], ◌∷◌, length, map, None, Result}
+use Rattle.std.specs.Prelude.{ℕ, ◌-◌, List, [], ◌∷◌, length, map, None, Result}
 use Rattle.plum_base.specs.declared.answers.Reading.{Reading}
 use Rattle.plum_base.specs.declared.counts.Counts.{Counts}
 use Rattle.plum_base.specs.declared.packet.Packet.{Packet}
@@ -16,10 +16,6 @@ counts_of segment kept = record {
   repeats = length (packets_in segment) - length kept;
   refused = length (refused_in segment);
 }
-
--- Each body is counted once: it is kept, a repeat, or refused.
-abbrev pub AddUp : Counts → Type 0
-AddUp counts = counts.bodies ≡ counts.kept + counts.repeats + counts.refused
 
 -- The section of a segment, decoded, of which these packets are kept, with the readings at its
 -- mark. At this stage a replay has one mark, and an area's first reading gives no alert.

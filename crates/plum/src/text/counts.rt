@@ -6,8 +6,8 @@ ghost use Rattle.plum_base.specs.declared.packet.Packet.{Packet};
 ghost use Rattle.plum_base.specs.declared.packet.PacketFault.{PacketFault};
 ghost use Rattle.plum_packet.specs.Segments.{packets_in};
 ghost use Rattle.plum_seq.specs.Keys.{kept_after};
-ghost use Rattle.plum_text.specs.Texts.{totals_of};
-ghost use Rattle.plum.specs.Texts.{counts_of, sections_of, AddUp};
+ghost use Rattle.plum_text.specs.Texts.{totals_of, AddUp};
+ghost use Rattle.plum.specs.Texts.{counts_of, sections_of};
 
 /// A law: each body of a segment is kept, a repeat or refused, whatever packets came before; so it
 /// is in the totals.
