@@ -8,6 +8,8 @@
 #[cfg(test)]
 mod files;
 #[cfg(test)]
+mod packets;
+#[cfg(test)]
 mod ranges;
 #[cfg(test)]
 mod records;

@@ -1,5 +1,5 @@
-//! Trials of lines and of desks: worked rows on the level of one call, with ample memory, and all
-//! that stands next to a line.
+//! Trials of lines, of notes and of desks: worked rows on the level of one call, with ample memory,
+//! and all that stands next to a line.
 //!
 //! It promises nothing, and nothing stands on it: each item is a test's alone, so that no crate
 //! below is proved twice for its tests.
@@ -9,3 +9,5 @@
 mod alerts;
 #[cfg(test)]
 mod lines;
+#[cfg(test)]
+mod notes;

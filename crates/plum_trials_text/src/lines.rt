@@ -1,7 +1,9 @@
 //! Lines at the ends of their fields' ranges, and all bytes that stand next to them.
 
 use plum_base::{Alert, Bytes, Class, Key, Name, PacketFault, Tenths};
-use plum_text::{JournalLine, OutLine, read_journal, read_out, write_journal, write_out};
+use plum_text::{
+    JournalLine, OutLine, PlainLine, read_journal, read_out, write_journal, write_out, write_plain,
+};
 use std::alloc::Global;
 use std::process::Abort;
 use std::test::Fail;
@@ -85,6 +87,16 @@ fn journal_lines(rt: HostRuntime) -> Result<(), Fail> {
     };
     let bytes = b"E 4294967295 4294967295 65535 65535 4294967295 C -3276.8\n";
     expect_journal(&rt, rt.alloc(), greatest, bytes)
+}
+
+/// What stands beside a line of the journal, and is none.
+#[test]
+fn lines_and_range_faults(rt: HostRuntime) {
+    assert!(rt; read_journal(b"E 1 1 1 0 0 F -\n").is_some());
+    assert!(rt; read_journal(b"E 1 1 1 0 0 F -").is_none());
+    assert!(rt; read_journal(b"E 01 1 1 0 0 F -\n").is_none());
+    assert!(rt; read_journal(b"E 1 1 1 0 0 F -0.0\n").is_none());
+    assert!(rt; read_journal(b"E 1 1 1 65536 0 F -\n").is_none());
 }
 
 #[test]
@@ -190,4 +202,78 @@ fn alerts(rt: HostRuntime) -> Result<(), Fail> {
         alert: Alert::Cancel,
     };
     expect_out(&rt, rt.alloc(), line, b"A 4294967295 a cancel\n")
+}
+
+#[test]
+fn other_ends_of_counts(rt: HostRuntime) -> Result<(), Fail> {
+    let line = OutLine::Mark {
+        m: u32::MAX,
+        bodies: u32::MAX,
+        kept: u32::MAX,
+        repeats: u32::MAX,
+        refused: u32::MAX,
+    };
+    let bytes = b"M 4294967295 4294967295 4294967295 4294967295 4294967295\n";
+    expect_out(&rt, rt.alloc(), line, bytes)?;
+    let line = OutLine::Totals {
+        segments: 0,
+        bodies: 0,
+        kept: 0,
+        repeats: 0,
+        refused: 0,
+    };
+    expect_out(&rt, rt.alloc(), line, b"Z 0 0 0 0 0\n")?;
+    expect_out(&rt, rt.alloc(), OutLine::Tail { bytes: 0 }, b"T 0\n")
+}
+
+#[test]
+fn other_ends_of_readings(rt: HostRuntime) -> Result<(), Fail> {
+    let line = OutLine::Reading {
+        m: u32::MAX,
+        area: Name::read(b"abcdefghijklmnop").ok_or("a name")?,
+        front: 0,
+    };
+    expect_out(&rt, rt.alloc(), line, b"R 4294967295 abcdefghijklmnop 0\n")?;
+    let line = OutLine::Answer {
+        m: 0,
+        target: Name::read(b"9").ok_or("a name")?,
+        value: Some(Tenths(i16::MIN)),
+        class: Some(Class::C0),
+    };
+    expect_out(&rt, rt.alloc(), line, b"P 0 9 -3276.8 0\n")?;
+    let line = OutLine::Answer {
+        m: 1,
+        target: Name::read(b"t1").ok_or("a name")?,
+        value: None,
+        class: None,
+    };
+    expect_out(&rt, rt.alloc(), line, b"P 1 t1 - -\n")
+}
+
+/// The three lines that are written only.
+#[test]
+fn plain_lines(rt: HostRuntime) -> Result<(), Fail> {
+    let lines = [
+        PlainLine::Value {
+            key: Key { boot: 0, number: 5 },
+            fresh: true,
+            value: Some(Tenths(21)),
+        },
+        PlainLine::Counts {
+            kept: 3,
+            repeats: u32::MAX,
+        },
+        PlainLine::Drill {
+            seed: u64::MAX,
+            stations: 400,
+            seconds: 300,
+        },
+    ];
+    let mut text = Bytes::new(rt.alloc())?;
+    for line in lines.iter() {
+        write_plain(&mut text, line)?;
+    }
+    let written = b"V 0 5 F 2.1\nY 3 4294967295\ndrill 18446744073709551615 400 300\n";
+    assert!(rt; text.as_slice() == written.as_slice());
+    Ok(())
 }
