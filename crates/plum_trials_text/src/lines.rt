@@ -182,26 +182,72 @@ fn readings_and_answers(rt: HostRuntime) -> Result<(), Fail> {
     expect_out(&rt, rt.alloc(), line, b"P 1 t1 -0.3 -\n")
 }
 
+/// The least number of a record, and of each fault the other end.
+#[test]
+fn other_ends_of_refused_bodies(rt: HostRuntime) -> Result<(), Fail> {
+    let faults: [(PacketFault, &[u8]); 5] = [
+        (PacketFault::Version(0), b"X 0 P3 0\n"),
+        (PacketFault::Flags(0), b"X 0 P4 0\n"),
+        (PacketFault::Station(0), b"X 0 P5 0\n"),
+        (PacketFault::Count(u16::MAX), b"X 0 P6 65535\n"),
+        (
+            PacketFault::Length {
+                expected: u32::MAX,
+                found: 0,
+            },
+            b"X 0 P7 4294967295 0\n",
+        ),
+    ];
+    for (fault, bytes) in faults.iter() {
+        let line = OutLine::Refused {
+            number: 0,
+            fault: *fault,
+        };
+        expect_out(&rt, rt.alloc(), line, bytes)?;
+    }
+    Ok(())
+}
+
 #[test]
 fn alerts(rt: HostRuntime) -> Result<(), Fail> {
-    let line = OutLine::Alert {
-        m: 2,
-        area: Name::read(b"a").ok_or("a name")?,
-        alert: Alert::Raise(Class::C5Lower),
-    };
-    expect_out(&rt, rt.alloc(), line, b"A 2 a raise 5-\n")?;
-    let line = OutLine::Alert {
-        m: 2,
-        area: Name::read(b"z9").ok_or("a name")?,
-        alert: Alert::Upgrade(Class::C7),
-    };
-    expect_out(&rt, rt.alloc(), line, b"A 2 z9 upgrade 7\n")?;
-    let line = OutLine::Alert {
-        m: u32::MAX,
-        area: Name::read(b"a").ok_or("a name")?,
-        alert: Alert::Cancel,
-    };
-    expect_out(&rt, rt.alloc(), line, b"A 4294967295 a cancel\n")
+    let alerts: [(Alert, &[u8]); 3] = [
+        (Alert::Raise(Class::C0), b"A 0 a raise 0\n"),
+        (Alert::Upgrade(Class::C5Lower), b"A 0 a upgrade 5-\n"),
+        (Alert::Cancel, b"A 0 a cancel\n"),
+    ];
+    for (alert, bytes) in alerts.iter() {
+        let line = OutLine::Alert {
+            m: 0,
+            area: Name::read(b"a").ok_or("a name")?,
+            alert: *alert,
+        };
+        expect_out(&rt, rt.alloc(), line, bytes)?;
+    }
+    Ok(())
+}
+
+#[test]
+fn other_ends_of_alerts(rt: HostRuntime) -> Result<(), Fail> {
+    let alerts: [(Alert, &[u8]); 3] = [
+        (
+            Alert::Raise(Class::C7),
+            b"A 4294967295 abcdefghijklmnop raise 7\n",
+        ),
+        (
+            Alert::Upgrade(Class::C6Upper),
+            b"A 4294967295 abcdefghijklmnop upgrade 6+\n",
+        ),
+        (Alert::Cancel, b"A 4294967295 abcdefghijklmnop cancel\n"),
+    ];
+    for (alert, bytes) in alerts.iter() {
+        let line = OutLine::Alert {
+            m: u32::MAX,
+            area: Name::read(b"abcdefghijklmnop").ok_or("a name")?,
+            alert: *alert,
+        };
+        expect_out(&rt, rt.alloc(), line, bytes)?;
+    }
+    Ok(())
 }
 
 #[test]
