@@ -4,3 +4,4 @@ pub mod Levels
 pub mod Setup
 pub mod Lane
 pub mod Sites
+pub mod Counts

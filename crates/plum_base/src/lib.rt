@@ -32,7 +32,7 @@ pub use memory::{NoMemory, Shut};
 pub use name::Name;
 pub use note::{Note, Notes};
 pub use numbers::{AreaNo, Key, LaneNo, Point, StationNo, TargetNo, Tenths};
-pub use packet::{Packet, PacketFault};
+pub use packet::{Packet, PacketFault, RefusedBody};
 pub use rules::{Alert, Class, Rules};
 pub use setup::{Gain, Setup};
 pub use sites::{Sites, StationSite, TargetSite, lawful};

@@ -29,3 +29,11 @@ pub enum PacketFault {
     /// Another length than the count asks for, in bytes.
     Length { expected: u32, found: u32 },
 }
+
+/// A body that is no packet.
+#[derive(Clone, Copy, Debug, PartialEq, Eq)]
+pub struct RefusedBody {
+    /// The number of its record in the capture, from 1, marks included.
+    pub number: u32,
+    pub fault: PacketFault,
+}

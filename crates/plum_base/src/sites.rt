@@ -90,6 +90,16 @@ impl Sites {
         })
     }
 
+    /// Equal sites.
+    pub fn copy(&self, alloc: Global) -> Result<Sites, NoMemory>
+        ensures { IfOk result (λ s. s ≡ self.now) }
+    {
+        let mut stations = Vec::new(alloc);
+        stations.extend_from_slice(self.stations.as_slice())?;
+        let targets = copy_targets(alloc, self.targets.as_slice())?;
+        Sites::new(alloc, stations, targets)
+    }
+
     /// The station with that code.
     pub fn find(&self, code: u16) -> Option<StationNo>
         ensures found { IfSome result (λ n. HasCode self.now.stations n.0 code) }
@@ -192,6 +202,22 @@ fn numbers_in(
         numbers.push(area_number(areas, &target.area))?;
     }
     Ok(numbers)
+}
+
+/// Equal targets.
+fn copy_targets(alloc: Global, targets: &[TargetSite]) -> Result<Vec<TargetSite>, NoMemory>
+    ensures { IfOk result (λ v. v.items ≡ targets.now) }
+{
+    let mut copies = Vec::new(alloc);
+    for target in targets {
+        copies.push(TargetSite {
+            name: target.name.copy(),
+            area: target.area.copy(),
+            at: target.at,
+            factor: target.factor,
+        })?;
+    }
+    Ok(copies)
 }
 
 /// Whether a place is on the grid.
