@@ -4,6 +4,7 @@ use Rattle.std.proofs.Common.{ap₂, subst, append_assoc}
 use Rattle.std.specs.List.{AllByRecursion}
 use Rattle.plum_base.specs.declared.answers.Reading.{Reading}
 use Rattle.plum_base.specs.declared.packet.PacketFault.{PacketFault}
+use Rattle.plum_base.specs.declared.packet.RefusedBody.{RefusedBody}
 use Rattle.plum_base.specs.declared.rules.Alert.{Alert}
 use Rattle.plum_base.specs.declared.sites.TargetSite.{TargetSite}
 use Rattle.plum_base.specs.Sites.{areas_of}
@@ -19,23 +20,23 @@ NoRefusedFirst (Refused number fault ∷ ls) = ⊥
 NoRefusedFirst (l ∷ ls) = Unit {0}
 
 -- the lines of these refused bodies
-abbrev refused_lines : List (ℕ × PacketFault) → List OutLine
-refused_lines refused = map (λ r. Refused r.0 r.1) refused
+abbrev refused_lines : List RefusedBody → List OutLine
+refused_lines refused = map (λ r. Refused r.number r.fault) refused
 
 -- refused bodies up to a line that is none
-same_refused : (rs qs : List (ℕ × PacketFault)) (x y : List OutLine) → NoRefusedFirst x
+same_refused : (rs qs : List RefusedBody) (x y : List OutLine) → NoRefusedFirst x
     → NoRefusedFirst y → refused_lines rs ++ x ≡ refused_lines qs ++ y → (rs ≡ qs) × (x ≡ y)
 same_refused [] [] x y nx ny e = (refl, e)
 same_refused [] (q ∷ qs) x y nx ny e = absurd (subst NoRefusedFirst e nx)
 same_refused (r ∷ rs) [] x y nx ny e = absurd (subst NoRefusedFirst (sym e) ny)
 same_refused (r ∷ rs) (q ∷ qs) x y nx ny e =
-    let line_of : ℕ × PacketFault → OutLine = λ r. Refused r.0 r.1 in
+    let line_of : RefusedBody → OutLine = λ r. Refused r.number r.fault in
     let cut =
     cons_same (line_of r) (line_of q) (refused_lines rs ++ x) (refused_lines qs ++ y) e in
-    let number : r.0 ≡ q.0 = let e = cut.0 in cc in
-    let fault : r.1 ≡ q.1 = let e = cut.0 in cc in
-    let pair : ℕ → PacketFault → ℕ × PacketFault = λ n f. (n, f) in
-    let first : r ≡ q = ap₂ pair number fault in
+    let number : r.number ≡ q.number = let e = cut.0 in cc in
+    let fault : r.fault ≡ q.fault = let e = cut.0 in cc in
+    let made : ℕ → PacketFault → RefusedBody = λ n f. record { number = n; fault = f } in
+    let first : r ≡ q = ap₂ made number fault in
     let more = same_refused rs qs x y nx ny cut.1 in
     let same : r ∷ rs ≡ q ∷ qs = let e = first in let f = more.0 in cc in
     (same, more.1)
@@ -50,7 +51,7 @@ NoRefusedFirst-areas targets m (area ∷ areas) (r ∷ rs) [] x nx = nx
 NoRefusedFirst-areas targets m (area ∷ areas) (r ∷ rs) (a ∷ alerts) x nx = tt
 
 -- a section of these parts
-section_of : ℕ → ℕ → ℕ → ℕ → List (ℕ × PacketFault) → List Reading → List (Option Alert) → Section
+section_of : ℕ → ℕ → ℕ → ℕ → List RefusedBody → List Reading → List (Option Alert) → Section
 section_of bodies kept repeats refused bad readings alerts = record {
   counts = record { bodies = bodies; kept = kept; repeats = repeats; refused = refused };
   refused = bad;
@@ -59,7 +60,7 @@ section_of bodies kept repeats refused bad readings alerts = record {
 }
 
 -- the same section, from the same parts
-same_parts : (b₁ b₂ k₁ k₂ r₁ r₂ f₁ f₂ : ℕ) (bad₁ bad₂ : List (ℕ × PacketFault))
+same_parts : (b₁ b₂ k₁ k₂ r₁ r₂ f₁ f₂ : ℕ) (bad₁ bad₂ : List RefusedBody)
     (read₁ read₂ : List Reading) (a₁ a₂ : List (Option Alert)) → b₁ ≡ b₂ → k₁ ≡ k₂ → r₁ ≡ r₂
     → f₁ ≡ f₂ → bad₁ ≡ bad₂ → read₁ ≡ read₂ → a₁ ≡ a₂
     → section_of b₁ k₁ r₁ f₁ bad₁ read₁ a₁ ≡ section_of b₂ k₂ r₂ f₂ bad₂ read₂ a₂

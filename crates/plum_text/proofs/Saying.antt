@@ -6,12 +6,14 @@ use Rattle.std.proofs.lemmas.List.Sums.{sum_by-cons}
 use Rattle.std.proofs.lemmas.Option.{same_Some}
 use Rattle.std.specs.Prelude.{slice_get}
 use Rattle.std.specs.List.{AllByRecursion}
+use Rattle.plum_base.specs.Counts.{AddUp}
 use Rattle.plum_base.specs.declared.answers.Reading.{Reading}
 use Rattle.plum_base.specs.declared.counts.Counts.{Counts}
 use Rattle.plum_base.specs.declared.entry.Entry.{Entry}
 use Rattle.plum_base.specs.declared.note.Note.{Note}
 use Rattle.plum_base.specs.declared.numbers.Tenths.{Tenths}
 use Rattle.plum_base.specs.declared.packet.PacketFault.{PacketFault}
+use Rattle.plum_base.specs.declared.packet.RefusedBody.{RefusedBody}
 use Rattle.plum_base.specs.declared.rules.Alert.{Alert}
 use Rattle.plum_base.specs.declared.sites.StationSite.{StationSite}
 use Rattle.plum_base.specs.declared.sites.TargetSite.{TargetSite}
@@ -21,7 +23,7 @@ use Rattle.plum_text.specs.declared.lines.OutLine.{OutLine}
 use Rattle.plum_text.specs.declared.lines.OutLine.TheVariants.{Mark, Refused, Tail}
 use Rattle.plum_text.specs.declared.lines.OutLine.TheVariants.{Reading as ReadingLine}
 use Rattle.plum_text.specs.declared.lines.OutLine.TheVariants.{Alert as AlertLine}
-use Rattle.plum_text.specs.Texts.{Section, AddUp, answer_line, answer_lines, alert_lines}
+use Rattle.plum_text.specs.Texts.{Section, answer_line, answer_lines, alert_lines}
 use Rattle.plum_text.specs.Texts.{area_lines, areas_lines, section_lines, sections_lines, out_lines}
 use Rattle.plum_text.specs.Texts.{totals_of, totals_line, notes_from, note_of, lines_from}
 use Rattle.plum_text.specs.Texts.{journal_lines}
@@ -69,9 +71,9 @@ module _ (P : OutLine → Type 0) (IsMark : ℕ → Type 0) (AreCounts : Counts 
       )
       (of_areas m at areas readings alerts)
 
-  of_refused : (bodies : List (ℕ × PacketFault)) → Holds (map (λ r. Refused r.0 r.1) bodies)
+  of_refused : (bodies : List RefusedBody) → Holds (map (λ r. Refused r.number r.fault) bodies)
   of_refused [] = tt
-  of_refused (r ∷ bodies) = (refused r.0 r.1, of_refused bodies)
+  of_refused (r ∷ bodies) = (refused r.number r.fault, of_refused bodies)
 
   of_sections : (m : ℕ) (ss : List Section) → ((k : ℕ) → m ≤ k → k < m + length ss → IsMark k)
       → AllByRecursion (λ s. AreCounts s.counts) ss → Holds (sections_lines targets m ss)
@@ -80,7 +82,7 @@ module _ (P : OutLine → Type 0) (IsMark : ℕ → Type 0) (AreCounts : Counts 
       let at : IsMark m = marks m (omega arith) (omega arith) in
       joined P (section_lines targets m s) (sections_lines targets (m + 1) ss) (
         mark m s.counts at counts.0,
-        joined P (map (λ r. Refused r.0 r.1) s.refused)
+        joined P (map (λ r. Refused r.number r.fault) s.refused)
             (areas_lines targets m (areas_of targets) s.readings s.alerts)
             (of_refused s.refused) (of_areas m at (areas_of targets) s.readings s.alerts),
       )

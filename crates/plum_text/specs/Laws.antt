@@ -4,13 +4,14 @@ use Rattle.std.specs.Prelude.{Some, option_map}
 use Rattle.std.specs.List.{AllByRecursion}
 use Rattle.plum_scale.specs.Classes.{class_of}
 use Rattle.plum_text.specs.declared.lines.OutLine.TheVariants.{Mark, Reading, Answer, Alert, Totals}
+use Rattle.plum_base.specs.Counts.{AddUp}
 use Rattle.plum_base.specs.declared.entry.Entry.{Entry}
 use Rattle.plum_base.specs.declared.sites.StationSite.{StationSite}
 use Rattle.plum_base.specs.declared.sites.TargetSite.{TargetSite}
 use Rattle.plum_text.specs.declared.lines.JournalLine.{JournalLine}
 use Rattle.plum_text.specs.declared.lines.OutLine.{OutLine}
 use Rattle.plum_text.specs.Lines.{IsJournalLine, FitsJournal, IsOutLine, FitsOut}
-use Rattle.plum_text.specs.Texts.{Section, AddUp, IsWhole, notes_from, journal_lines}
+use Rattle.plum_text.specs.Texts.{Section, IsWhole, notes_from, journal_lines}
 use Rattle.plum_text.specs.Texts.{journal_text}
 use Rattle.plum_text.specs.Texts.{out_lines, out_text}
 

@@ -8,7 +8,7 @@ use Rattle.plum_base.specs.declared.counts.Counts.{Counts}
 use Rattle.plum_base.specs.declared.entry.Entry.{Entry}
 use Rattle.plum_base.specs.declared.note.Note.{Note}
 use Rattle.plum_base.specs.declared.numbers.Tenths.{Tenths}
-use Rattle.plum_base.specs.declared.packet.PacketFault.{PacketFault}
+use Rattle.plum_base.specs.declared.packet.RefusedBody.{RefusedBody}
 use Rattle.plum_base.specs.declared.rules.Alert.{Alert}
 use Rattle.plum_base.specs.declared.sites.StationSite.{StationSite}
 use Rattle.plum_base.specs.declared.sites.TargetSite.{TargetSite}
@@ -65,15 +65,11 @@ journal_lines stations parts = lines_from stations 1 (notes_from 1 parts)
 abbrev pub journal_text : List StationSite → List (List Entry) → List ℕ
 journal_text stations parts = flat_map journal_line (journal_lines stations parts)
 
--- Each body is counted once: it is kept, a repeat, or refused.
-abbrev pub AddUp : Counts → Type 0
-AddUp counts = counts.bodies ≡ counts.kept + counts.repeats + counts.refused
-
 -- What the output tells at a mark: the counts of its segment, the refused bodies in it, each with
 -- the number of its record, and for each area a reading and an alert or none.
 pub record Section : Type 0 where
   pub counts : Counts
-  pub refused : List (ℕ × PacketFault)
+  pub refused : List RefusedBody
   pub readings : List Reading
   pub alerts : List (Option Alert)
 
@@ -107,7 +103,7 @@ areas_lines targets m areas readings alerts = []
 abbrev pub section_lines : List TargetSite → ℕ → Section → List OutLine
 section_lines targets m s =
     Mark m s.counts.bodies s.counts.kept s.counts.repeats s.counts.refused
-    ∷ map (λ r. Refused r.0 r.1) s.refused
+    ∷ map (λ r. Refused r.number r.fault) s.refused
     ++ areas_lines targets m (areas_of targets) s.readings s.alerts
 
 abbrev pub sections_lines : List TargetSite → ℕ → List Section → List OutLine

@@ -1,6 +1,6 @@
 use Rattle.std.proofs.Common.{refl, length, ◌≤◌, arith}
 use Rattle.plum_text.specs.Laws.{SaysItsClass, SaysItsSum, IsOfMarkTo}
-use Rattle.plum_text.specs.Texts.{AddUp}
+use Rattle.plum_base.specs.Counts.{AddUp}
 use Rattle.plum_text.proofs.Saying.{all_lines, any_counts, totals_add_up, position_from_one}
 use Rattle.plum_text.proofs.laws.lines_of_texts.Goals as goal
 
