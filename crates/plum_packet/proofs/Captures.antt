@@ -1,13 +1,14 @@
 -- All bytes are a capture, in one way.
 use Rattle.std.proofs.Common.{◌≡◌, ℕ, zero, suc, ◌<◌, ◌≤◌, inl, inr, List, [], ◌∷◌, ◌++◌, length}
 use Rattle.std.proofs.Common.{get_or, take, drop, refl, sym, ap, ◌∙◌, subst, arith, append_assoc}
-use Rattle.std.proofs.Common.{length-drop, take-append-drop}
+use Rattle.std.proofs.Common.{length-drop, length-append, take-append-drop}
 use Rattle.std.proofs.lemmas.Bool.{cases_lt}
 use Rattle.std.proofs.lemmas.List.{length-take-le, get_or-take}
-use Rattle.std.specs.List.{flat_map}
+use Rattle.std.specs.List.{flat_map, AllByRecursion}
 use Rattle.byteorder.specs.Endian.{big_number}
 use Rattle.byteorder.specs.Numbers.{big_from-take}
-use Rattle.plum_packet.specs.Capture.{record_of, IsBody, IsCapture, AreBytes}
+use Rattle.plum_packet.specs.Capture.{record_of, IsBody, IsCapture, AreBytes, HasRecord}
+use Rattle.plum_packet.specs.Reading.{HasMoreRecords}
 use Rattle.plum_packet.specs.Record.{record_end, body_in, IsRecord}
 use Rattle.plum_packet.specs.Laws.{EachIsCapture, OneCapture, TailIsShort, RowGoesOn, RowsGoOn}
 use Rattle.plum_packet.proofs.Spelling.{no_record, whole_record, same_record}
@@ -160,6 +161,46 @@ fronts (a ∷ some) (b ∷ others) more rest left right e =
     elim (fronts some others more rest left.1 right.1 peeled.1) [
       | inl on ↦ inl (RowGoesOn-before a b some others more rest peeled.0 on)
       | inr on ↦ inr (RowGoesOn-before b a others some rest more (sym peeled.0) on)
+    ]
+
+-- those behind others are bodies too
+lengths-behind : (bodies last : List (List ℕ)) → AllByRecursion IsBody (bodies ++ last)
+    → AllByRecursion IsBody last
+lengths-behind [] last are = are
+lengths-behind (body ∷ bodies) last are = lengths-behind bodies last are.1
+
+-- where no whole record stands, there is none of these
+none_behind : (last : List (List ℕ)) (rest left : List ℕ) → AllByRecursion IsBody last
+    → ¬ HasRecord rest → rest ≡ flat_map record_of last ++ left → length last ≤ 0
+none_behind [] rest left are none is = omega arith
+none_behind (body ∷ last) rest left are none is =
+    absurd (none (
+      body,
+      flat_map record_of last ++ left,
+      are.0,
+      is ∙ append_assoc (record_of body) (flat_map record_of last) left,
+    ))
+
+-- A capture of so many records has no more.
+pub no_more_records : (capture : List ℕ) (bodies : List (List ℕ)) (rest : List ℕ) (limit : ℕ)
+    → IsCapture capture bodies rest → length bodies ≤ limit → ¬ HasMoreRecords capture limit
+no_more_records capture bodies rest limit whole few more =
+    let others = more.0 in
+    let are = more.2 in
+    let same = sym whole.records.spelled ∙ are.spelled in
+    elim (fronts bodies others rest more.1 whole.records.lengths are.lengths same) [
+      | inl on ↦
+          let lengths = subst (AllByRecursion IsBody) on.1 are.lengths in
+          let behind = lengths-behind bodies on.0 lengths in
+          omega (
+            arith,
+            ap length on.1,
+            length-append bodies on.0,
+            none_behind on.0 rest more.1 behind whole.no_more on.2,
+            few,
+            more.3,
+          )
+      | inr on ↦ omega (arith, ap length on.1, length-append others on.0, few, more.3)
     ]
 
 -- a tail as long as the longest record would start with one

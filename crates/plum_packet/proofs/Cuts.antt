@@ -1,7 +1,7 @@
 -- The segments of a capture: what they hold, and where they end.
 use Rattle.std.proofs.Common.{◌≡◌, ◌≢◌, ℕ, ◌+◌, ◌<◌, ◌≤◌, false, not, eqb, List, [], ◌∷◌, ◌++◌}
 use Rattle.std.proofs.Common.{length}
-use Rattle.std.proofs.Common.{refl, sym, ap, ◌∙◌, inl, inr, arith, append-nil, append_assoc}
+use Rattle.std.proofs.Common.{refl, sym, ap, subst, ◌∙◌, inl, inr, arith, append-nil, append_assoc}
 use Rattle.std.proofs.lemmas.Bool.{false≢true, cases_Bool, eqb-true, eqb-false, ne_eqb, eq-eqb}
 use Rattle.std.proofs.lemmas.List.{length_push}
 use Rattle.std.proofs.lemmas.List.FromFn.{length-enumerate_from}
@@ -11,7 +11,8 @@ use Rattle.std.specs.List.{All, filter, flat_map, enumerate_from}
 use Rattle.std.specs.Str.{bytes_eq}
 use Rattle.plum_packet.specs.Segments.{SEGMENT_BODIES}
 use Rattle.plum_packet.specs.Capture.{mark_body}
-use Rattle.plum_packet.specs.Segments.{segments_from, HasNoMark, CutsSegments}
+use Rattle.plum_packet.specs.Segments.{segments_from, segments_of, HasNoMark, CutsSegments}
+use Rattle.plum_packet.specs.Reading.{IsCutWithin, IsCutInto}
 
 -- This body is no mark.
 abbrev IsNoMark : List ℕ → Type 0
@@ -187,3 +188,52 @@ module _ (segments : ℕ → List (List ℕ) → List (List (ℕ × List ℕ)))
                   ∙ ap (λ l. segments_from (m + 1) l bodies) pushed)
             ]
       ]
+
+-- one body more ends these segments and leaves this part of another
+cut_more : (bodies : List (List ℕ)) (cut ended : List (List (ℕ × List ℕ)))
+    (so_far left : List (ℕ × List ℕ)) (body : List ℕ) → IsCutWithin bodies cut so_far
+    → ((later : List (List ℕ)) → segments_from (length bodies + 1) so_far (body ∷ later)
+    ≡ ended ++ segments_from (length bodies + 1 + 1) left later)
+    → IsCutWithin (bodies ++ body ∷ []) (cut ++ ended) left
+cut_more bodies cut ended so_far left body is next later =
+    let row = bodies ++ body ∷ [] in
+    let long : length row ≡ length bodies + 1 = length_push bodies body in
+    ap segments_of (append_assoc bodies (body ∷ []) later)
+    ∙ is (body ∷ later)
+    ∙ ap (λ l. cut ++ l) (next later)
+    ∙ ap (λ n. cut ++ (ended ++ segments_from (n + 1) left later)) (sym long)
+    ∙ sym (append_assoc cut ended (segments_from (length row + 1) left later))
+
+module _ (bodies : List (List ℕ)) (cut : List (List (ℕ × List ℕ))) (so_far : List (ℕ × List ℕ))
+    (body : List ℕ) (is : IsCutWithin bodies cut so_far) where
+  -- a mark ends the segment
+  pub cut_at_mark : body ≡ mark_body → IsCutInto (bodies ++ body ∷ []) (cut ++ so_far ∷ [])
+  cut_at_mark mark =
+      let test = (bytes_eq-Decides body mark_body).1 mark in
+      cut_more bodies cut (so_far ∷ []) so_far [] body is (λ later. rw test refl)
+
+  module _ (differs : body ≢ mark_body) where
+    -- a body that fills it does
+    pub cut_where_full : length so_far + 1 ≡ SEGMENT_BODIES
+        → IsCutInto (bodies ++ body ∷ []) (cut ++ (so_far ++ (length bodies + 1, body) ∷ []) ∷ [])
+    cut_where_full full =
+        let longer = so_far ++ (length bodies + 1, body) ∷ [] in
+        let test = no_mark_fails body differs in
+        let room = eq-eqb (length so_far + 1) SEGMENT_BODIES full in
+        cut_more bodies cut (longer ∷ []) so_far [] body is (λ later. rw (test, room) refl)
+
+    -- else it goes on
+    pub cut_within : length so_far + 1 ≢ SEGMENT_BODIES
+        → IsCutWithin (bodies ++ body ∷ []) cut (so_far ++ (length bodies + 1, body) ∷ [])
+    cut_within few =
+        let longer = so_far ++ (length bodies + 1, body) ∷ [] in
+        let test = no_mark_fails body differs in
+        let room = ne_eqb (length so_far + 1) SEGMENT_BODIES few in
+        subst (λ l. IsCutWithin (bodies ++ body ∷ []) l longer) (append-nil cut)
+        (cut_more bodies cut [] so_far longer body is (λ later. rw (test, room) refl))
+
+-- at the end of the capture it is the last
+pub cut_at_end : (bodies : List (List ℕ)) (cut : List (List (ℕ × List ℕ)))
+    (so_far : List (ℕ × List ℕ)) → IsCutWithin bodies cut so_far
+    → segments_of bodies ≡ cut ++ so_far ∷ []
+cut_at_end bodies cut so_far is = ap segments_of (sym (append-nil bodies)) ∙ is []

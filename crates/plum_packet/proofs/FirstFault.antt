@@ -26,9 +26,9 @@ same_kind stations body (Length v m) (Length w n) a b e = cc
 same_kind stations body f g a b e = absurd (omega arith)
 
 -- two first faults are one
-only : (stations : List StationSite) (body : List ℕ) (f g : PacketFault)
+pub one_first : (stations : List StationSite) (body : List ℕ) (f g : PacketFault)
     → IsFirstFault stations body f → IsFirstFault stations body g → f ≡ g
-only stations body f g a b = elim (cases_order (order_of f) (order_of g)) [
+one_first stations body f g a b = elim (cases_order (order_of f) (order_of g)) [
   | inl e ↦ same_kind stations body f g a.applies b.applies e
   | inr apart ↦ elim apart [
     | inl lt ↦ absurd (b.first f lt a.applies)
@@ -43,7 +43,7 @@ pub err_exactly : {T : Type 0} (stations : List StationSite) (body : List ℕ) (
 err_exactly stations body f a g = (
   (λ e. let same : f ≡ g = cc in
       subst (λ (fault : PacketFault). IsFirstFault stations body fault) same a),
-  (λ b. ap Err (only stations body f g a b)),
+  (λ b. ap Err (one_first stations body f g a b)),
 )
 
 -- a body with no fault has no first one

@@ -7,3 +7,6 @@ pub mod Samples
 pub mod Cuts
 pub mod Writing
 pub mod OneBody
+pub mod Taking
+pub mod Counted
+pub mod OneWay

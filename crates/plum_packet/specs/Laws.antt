@@ -1,10 +1,16 @@
 -- What holds of captures and of segments: the statements of their laws.
-use Rattle.std.specs.Prelude.{◌≡◌, ◌<◌, ◌≤◌, ◌⊎◌, ℕ, List, [], ◌∷◌, ◌++◌, length, All}
+use Rattle.std.specs.Prelude.{◌≡◌, ◌≢◌, ◌<◌, ◌≤◌, ◌⊎◌, ℕ, List, [], ◌∷◌, ◌++◌, length, map, All}
+use Rattle.std.specs.Prelude.{AllPairs}
 use Rattle.std.specs.List.{flat_map, enumerate_from, AllByRecursion}
+use Rattle.plum_base.specs.Counts.{AddUp}
+use Rattle.plum_base.specs.declared.sites.StationSite.{StationSite}
+use Rattle.plum_seq.specs.Keys.{kept_after}
 use Rattle.plum_packet.specs.Capture.{LONGEST_RECORD}
 use Rattle.plum_packet.specs.Segments.{SEGMENT_BODIES}
 use Rattle.plum_packet.specs.Capture.{record_of, IsBody, IsCapture, AreBytes}
+use Rattle.plum_packet.specs.Counts.{counts_in, counts_of}
 use Rattle.plum_packet.specs.Segments.{segments_of, unmarked, HasNoMark, CutsSegments}
+use Rattle.plum_packet.specs.Segments.{Decoded, packets_in, IsCaptureOf}
 
 -- All bytes are a capture: records, and a tail.
 abbrev pub EachIsCapture : Type 0
@@ -47,6 +53,30 @@ NoneTooLong = (bodies : List (List ℕ))
 abbrev pub OneSegment : Type 0
 OneSegment = (bodies : List (List ℕ)) → HasNoMark bodies → length bodies < SEGMENT_BODIES
     → segments_of bodies ≡ enumerate_from 1 bodies ∷ []
+
+-- A capture decodes in one way, where no two stations have one code.
+abbrev pub DecodedInOneWay : Type 0
+DecodedInOneWay = (stations : List StationSite) (capture : List ℕ)
+    (some others : List (List Decoded)) (tail other : ℕ)
+    → AllPairs (λ a b. a.code ≢ b.code) stations → AreBytes capture
+    → IsCaptureOf stations capture some tail → IsCaptureOf stations capture others other
+    → (some ≡ others) × (tail ≡ other)
+
+-- Each body of a segment is kept, a repeat or refused.
+abbrev pub CountsAddUp : Type 0
+CountsAddUp = (segments : List (List Decoded)) → AllByRecursion AddUp (counts_of segments)
+
+-- So is each body of the capture that is no mark.
+abbrev pub BodiesAreCounted : Type 0
+BodiesAreCounted = (segments : List (List Decoded))
+    → map (λ c. c.bodies) (counts_of segments) ≡ map length segments
+
+-- One segment more is counted behind those before it.
+abbrev pub CountsGoOn : Type 0
+CountsGoOn = (segments : List (List Decoded)) (segment : List Decoded)
+    → counts_of (segments ++ segment ∷ [])
+    ≡ counts_of segments
+    ++ counts_in segment (kept_after (flat_map packets_in segments) (packets_in segment)) ∷ []
 
 -- No other way cuts so.
 abbrev pub OnlyCut : Type 0

@@ -4,4 +4,7 @@ pub mod Records
 pub mod Body
 pub mod Encoding
 pub mod Segments
+pub mod Counts
+pub mod Reading
+pub mod Counting
 pub mod Laws

@@ -1,5 +1,5 @@
 -- How far a reader of records has come.
-use Rattle.std.specs.Prelude.{◌≡◌, ℕ, List, [], ◌∷◌, ◌++◌, length, Option, Some}
+use Rattle.std.specs.Prelude.{◌≡◌, ℕ, ◌+◌, ◌-◌, List, [], ◌∷◌, ◌++◌, length, Option, Some}
 use Rattle.plum_packet.specs.declared.records.Progress.{Progress}
 use Rattle.plum_packet.specs.declared.records.Progress.TheVariants.{Open, Ended, Over}
 use Rattle.plum_packet.specs.Capture.{AreRecords, IsCapture}
@@ -22,6 +22,15 @@ tail_in Over ahead = 0
 -- the length of the tail, known at the end of the input
 abbrev pub tail_of : RecordsView → ℕ
 tail_of reader = tail_in reader.progress reader.ahead
+
+abbrev pub left_in : Progress → ℕ → ℕ
+left_in Open records = records + 1
+left_in Ended records = 0
+left_in Over records = 0
+
+-- how many segments a reader may give still: each but the last takes a record
+abbrev pub segments_left : RecordsView → ℕ
+segments_left reader = left_in reader.progress (reader.limit - reader.given)
 
 -- No further record was given.
 abbrev pub GivesNoMore : RecordsView → RecordsView → Type 0

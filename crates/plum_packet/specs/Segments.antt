@@ -8,7 +8,8 @@ use Rattle.std.specs.Str.{bytes_eq}
 use Rattle.plum_base.specs.declared.sites.StationSite.{StationSite}
 use Rattle.plum_base.specs.declared.packet.Packet.{Packet}
 use Rattle.plum_base.specs.declared.packet.PacketFault.{PacketFault}
-use Rattle.plum_packet.specs.Capture.{mark_body}
+use Rattle.plum_base.specs.declared.packet.RefusedBody.{RefusedBody}
+use Rattle.plum_packet.specs.Capture.{mark_body, IsCapture}
 use Rattle.plum_packet.specs.Body.{IsPacket, IsFirstFault}
 
 -- how many bodies fill a segment
@@ -59,17 +60,30 @@ abbrev pub DecodesAs : List StationSite → List ℕ → Result Packet PacketFau
 DecodesAs stations body (Ok packet) = IsPacket stations body packet
 DecodesAs stations body (Err fault) = IsFirstFault stations body fault
 
+-- a body decoded, beside the number of its record
+abbrev pub Decoded : Type 0
+Decoded = ℕ × Result Packet PacketFault
+
 -- This is the segment with its bodies decoded, each beside the number of its record.
-abbrev pub IsDecodedSegment : List StationSite → List (ℕ × List ℕ)
-    → List (ℕ × Result Packet PacketFault) → Type 0
+abbrev pub IsDecodedSegment : List StationSite → List (ℕ × List ℕ) → List Decoded → Type 0
 IsDecodedSegment stations segment results = AllZip
     (λ body decoded. (decoded.0 ≡ body.0) × DecodesAs stations body.1 decoded.1) segment results
 
 -- the packets of a segment, in file order
-abbrev pub packets_in : List (ℕ × Result Packet PacketFault) → List Packet
+abbrev pub packets_in : List Decoded → List Packet
 packets_in results = filter_map (λ decoded. result_ok decoded.1) results
 
 -- the refused bodies of a segment: the numbers of their records, and their faults
-abbrev pub refused_in : List (ℕ × Result Packet PacketFault) → List (ℕ × PacketFault)
-refused_in results =
-    filter_map (λ decoded. option_map (λ fault. (decoded.0, fault)) (result_err decoded.1)) results
+abbrev pub refused_in : List Decoded → List RefusedBody
+refused_in results = filter_map
+    (λ decoded. option_map (λ fault. record { number = decoded.0; fault = fault })
+    (result_err decoded.1)) results
+
+-- The capture is these segments, decoded, and a tail of this length.
+pub record IsCaptureOf (stations : List StationSite) (capture : List ℕ)
+    (segments : List (List Decoded)) (tail : ℕ) : Type 0 where
+  pub bodies : List (List ℕ)
+  pub rest : List ℕ
+  pub capture_is : IsCapture capture bodies rest
+  pub decoded : AllZip (IsDecodedSegment stations) (segments_of bodies) segments
+  pub tail_is : tail ≡ length rest

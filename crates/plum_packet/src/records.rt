@@ -201,6 +201,13 @@ impl Records {
         self.last.body()
     }
 
+    /// Whether the end of the input was met.
+    pub fn has_ended(&self) -> bool
+        ensures { IsTrue result ↔ (self.now.progress ≡ Ended) }
+    {
+        self.progress == Progress::Ended
+    }
+
     /// How many bytes the tail has, once the end of the input was met, and 0 before.
     pub fn tail(&self) -> u32
         ensures { result ≡ tail_of self.now }

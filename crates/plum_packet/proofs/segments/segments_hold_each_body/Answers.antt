@@ -1,6 +1,7 @@
 use Rattle.std.proofs.Common.{[], refl, arith}
 use Rattle.std.proofs.lemmas.List.Elements.{All-nil}
 use Rattle.plum_packet.proofs.Cuts.{joined, bound, last, cuts, only}
+use Rattle.plum_packet.proofs.OneWay.{decoded}
 use Rattle.plum_packet.proofs.segments.segments_hold_each_body.Goals as goal
 
 pub returns-clause-joined : goal.returns-clause-joined
@@ -18,3 +19,6 @@ returns-clause-cuts c = cuts
 pub returns-clause-only : goal.returns-clause-only
 returns-clause-only c =
     λ segments is bodies. only segments is 1 1 [] bodies (All-nil _) (omega arith) refl
+
+pub returns-clause-decoded : goal.returns-clause-decoded
+returns-clause-decoded c = decoded

@@ -1,0 +1,35 @@
+use Rattle.std.proofs.Common.{◌∙◌, arith}
+use Rattle.std.proofs.lemmas.Result.{err_from_is_err_and}
+use Rattle.plum_host.proofs.Frames.{OnlyReads-join}
+use Rattle.plum_packet.proofs.Taking.{TakesRecords-join}
+use Rattle.plum_packet.proofs.segments.Segments.next.Goals as goal
+
+pub returns-in_err-take-clause-taken : goal.returns-in_err-take-clause-taken
+returns-in_err-take-clause-taken g c =
+    let p = err_from_is_err_and c.from_residual.result c.from_residual.ensures.1 in
+    rw p.1 (TakesRecords-join _ _ _ _ _ _ c.bodies.invariant.taken c.in_err-take.ensures.taken)
+
+pub bodies-preserved : goal.bodies-preserved
+bodies-preserved g c =
+    let before = c.bodies.invariant in
+    let said = c.in_ok-take.ensures in
+    let more = c.if-branch.true in
+    let open_still = said.still_open more in
+    record {
+      begun = λ capture segments given.
+          let begun = before.begun capture segments given in
+          said.more more capture segments begun.0 begun.2 begun.1;
+      still_open = open_still;
+      room = said.room more;
+      listed = said.listed before.listed;
+      given = omega (arith, before.given, said.bodies);
+      limit = said.same_limit ∙ before.limit;
+      taken = TakesRecords-join _ _ _ _ _ _ before.taken said.taken;
+      no_fault = said.no_fault ∙ before.no_fault;
+      frame = OnlyReads-join before.frame said.frame;
+    }
+
+pub returns-clause-some : goal.returns-clause-some
+returns-clause-some g c = λ capture segments given.
+    let begun = c.bodies.invariant.begun capture segments given in
+    c.in_ok-take.ensures.last c.if-branch.false capture segments begun.0 begun.2 begun.1
