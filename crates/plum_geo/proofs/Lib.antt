@@ -1,1 +1,4 @@
 pub mod Scans
+pub mod LastValues
+pub mod Predictions
+pub mod Showing

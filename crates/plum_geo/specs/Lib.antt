@@ -1,1 +1,3 @@
 pub mod Prediction
+pub mod Corrected
+pub mod Shown

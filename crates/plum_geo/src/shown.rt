@@ -1,0 +1,151 @@
+//! What stations show, and predictions from it by a scan of all stations.
+
+ghost use Rattle.std.specs.Prelude.{◌≡◌, ◌<◌, ◌≤ℤ◌, ◌⊎◌, ℕ, List, [], ◌∷◌, ◌++◌, length, All};
+ghost use Rattle.std.specs.Prelude.{Some, None, IfSome, IfNone, IsSomeAnd, IfOk, IsTrue};
+ghost use Rattle.plum_base.specs.declared.entry.Entry.{Entry};
+ghost use Rattle.plum_base.specs.declared.numbers.Tenths.{Tenths};
+ghost use Rattle.plum_base.specs.Levels.{IsFactor};
+ghost use Rattle.plum_base.specs.Sites.{IsPlace, AreStations};
+ghost use Rattle.plum_geo.specs.Prediction.{none_or_on_scale, IsOnScale, IsNear, corrected};
+ghost use Rattle.plum_geo.specs.Prediction.{IsBest, plus_factor, IsPredictionOver};
+ghost use Rattle.plum_geo.specs.Corrected.{IsOnCorrectedScale};
+ghost use Rattle.plum_geo.specs.Shown.{value_in, AreShown};
+
+use crate::distance::near;
+use crate::laws::near_stations_are_those_near;
+use plum_base::{Entry, NoMemory, Point, StationSite, TargetSite, Tenths};
+use std::alloc::Global;
+use std::marker::Model;
+
+/// What each station shows, by its number. Contracts see the list.
+#[derive(Debug, Drop)]
+pub struct Shown {
+    values: Vec<Option<Tenths>>,
+}
+
+impl Model for Shown {
+    ghost use Rattle.std.specs.Prelude.{List, Option, All, IfSome};
+    ghost use Rattle.plum_base.specs.declared.numbers.Tenths.{Tenths};
+    ghost use Rattle.plum_geo.specs.Prediction.{IsOnScale};
+
+    ghost Value = { List (Option Tenths) };
+
+    ghost view = { λ s. s.values.items };
+
+    ghost invariant = { λ s. All (λ value. IfSome value IsOnScale) s.values.items };
+}
+
+impl Shown {
+    /// So many stations, of which none shows a value.
+    pub fn new(alloc: Global, stations: usize) -> Result<Shown, NoMemory>
+        ensures { IfOk result (λ shown. AreShown shown stations []) }
+    {
+        let values = vec![in alloc; None; stations]?;
+        Ok(Shown { values })
+    }
+
+    /// One entry more: its station shows its value from now on. An entry of a station that is not
+    /// there, or whose value is off the scale, changes nothing.
+    pub fn apply(&mut self, entry: &Entry)
+        ensures shown { (stations : ℕ) (entries : List Entry)
+            → AreShown self.old stations entries
+            → AreShown self.new stations (entries ++ entry.now ∷ []) }
+        ensures count { length self.new ≡ length self.old }
+    {
+        let station = entry.station.0 as usize;
+        if station < self.values.len() && none_or_on_scale(entry.value) {
+            self.values[station] = entry.value;
+        }
+    }
+
+    /// The prediction at a target, over the entries so far.
+    pub fn predict(&self, stations: &[StationSite], target: &TargetSite) -> Option<Tenths>
+        requires stations { AreStations stations.now }
+        requires target_place { IsPlace target.now.at }
+        requires target_factor { IsFactor target.now.factor }
+        requires count { length self.now ≡ length stations.now }
+        ensures { (entries : List Entry) → AreShown self.now (length stations.now) entries
+            → IsPredictionOver stations.now entries target.now result }
+    {
+        let best = best_at(stations, self.values.as_slice(), target.at)?;
+        Some(plus(best, target))
+    }
+}
+
+/// Whether a value is none or from -10.0 to 22.7.
+fn none_or_on_scale(value: Option<Tenths>) -> bool
+    ensures value { result ≡ none_or_on_scale value }
+    ensures scale { IsTrue result → IfSome value IsOnScale }
+{
+    match value {
+        None => true,
+        Some(t) => -100 <= t.0 && t.0 <= 227,
+    }
+}
+
+/// What a station that shows this value says at a place: the value less its factor. None where it
+/// is not near or shows none.
+fn said_by(site: &StationSite, shown: Option<Tenths>, place: Point) -> Option<Tenths>
+    requires at { IsPlace site.now.at }
+    requires factor { IsFactor site.now.factor }
+    requires scale { IfSome shown IsOnScale }
+    requires place { IsPlace place }
+    ensures some { IfSome result (λ t. IsNear site.now.at place × (value : Tenths)
+        × (shown ≡ Some value) × (t.0 ≡ corrected site.now value)) }
+    ensures none { IfNone result (IsNear site.now.at place → shown ≡ None) }
+    ensures range { IfSome result IsOnCorrectedScale }
+{
+    let value = shown?;
+    if near(site.at, place) {
+        Some(less(value, site))
+    } else {
+        None
+    }
+}
+
+/// A value less the factor of its station.
+fn less(value: Tenths, site: &StationSite) -> Tenths
+    requires scale { IsOnScale value }
+    requires factor { IsFactor site.now.factor }
+    ensures value { result.0 ≡ corrected site.now value }
+    ensures range { IsOnCorrectedScale result }
+{
+    Tenths(value.0 - site.factor.0)
+}
+
+/// The best at a place plus the factor of a target there.
+fn plus(best: Tenths, target: &TargetSite) -> Tenths
+    requires scale { IsOnCorrectedScale best }
+    requires factor { IsFactor target.now.factor }
+    ensures { Some result ≡ plus_factor target.now (Some best) }
+{
+    Tenths(best.0 + target.factor.0)
+}
+
+/// The greater of what two stations say; none is below each value.
+fn greater_of(a: Option<Tenths>, b: Option<Tenths>) -> Option<Tenths>
+    ensures one { (result ≡ a) ⊎ (result ≡ b) }
+    ensures first { IfSome a (λ t. IsSomeAnd result (λ r. t.0 ≤ℤ r.0)) }
+    ensures second { IfSome b (λ t. IsSomeAnd result (λ r. t.0 ≤ℤ r.0)) }
+{
+    a.max(b)
+}
+
+/// The best at a place: the greatest of what the stations say, which show these values.
+fn best_at(stations: &[StationSite], values: &[Option<Tenths>], place: Point) -> Option<Tenths>
+    requires stations { AreStations stations.now }
+    requires count { length values.now ≡ length stations.now }
+    requires scale { All (λ value. IfSome value IsOnScale) values.now }
+    requires place { IsPlace place }
+    ensures best { IsBest stations.now (value_in values.now) place result }
+    ensures range { IfSome result IsOnCorrectedScale }
+{
+    // For the contract: which stations are near.
+    near_stations_are_those_near();
+    let mut greatest = None;
+    for (n, site) in stations.iter().enumerate() {
+        let said = said_by(site, values[n], place);
+        greatest = greater_of(greatest, said);
+    }
+    greatest
+}
