@@ -27,6 +27,7 @@ use Rattle.plum_seq.specs.Laws.{GreatestIs, NoneGreatest}
 use Rattle.plum_geo.specs.Prediction.{RADIUS}
 use Rattle.plum_geo.specs.Prediction.{shown, corrected, plus_factor, IsNear, is_near}
 use Rattle.plum_geo.specs.Prediction.{distance_squared, FindsNear, IsBest}
+use Rattle.plum_geo.proofs.Predictions.{IsCovered, SaysSome, SaysNone, IsBest-nil, IsBest-push}
 use Rattle.plum_core.specs.declared.event.Event.{Event}
 use Rattle.plum_core.specs.declared.event.Event.TheVariants.{Take, Offer, Pop, Append, Publish}
 use Rattle.plum_core.specs.declared.event.Event.TheVariants.{Read, Learn}
@@ -37,7 +38,6 @@ use Rattle.plum_core.specs.Machine.{IsAppendReply, IsReadReply, IsLearnReply, Is
 use Rattle.plum_core.specs.Machine.{NamesExist}
 use Rattle.plum_core.specs.Transcript.{ArePredictions}
 use Rattle.plum_base.specs.Sites.{targets_of}
-use Rattle.plum_core.proofs.Predictions.{IsCovered, SaysSome, SaysNone, IsBest-nil, IsBest-push}
 
 -- some reply of which this holds
 abbrev HasReply : (Reply → Type 0) → Type 0

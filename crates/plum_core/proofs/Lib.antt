@@ -2,11 +2,10 @@ pub mod Lists
 pub mod Stations
 pub mod Networks
 pub mod Joining
-pub mod Shown
 pub mod Showing
-pub mod Predictions
 pub mod Lanes
 pub mod Legal
+pub mod GoingOn
 pub mod Backlogs
 pub mod Changed
 pub mod Keeping

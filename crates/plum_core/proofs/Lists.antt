@@ -1,6 +1,8 @@
--- Lists that are filtered.
-use Rattle.std.proofs.Common.{◌≡◌, Bool, true, false, cond, List, [], ◌∷◌, filter, inl, inr, refl}
-use Rattle.std.proofs.Common.{sym, ◌∙◌, ap}
+-- Lists that are filtered, and what stands at a place.
+use Rattle.std.proofs.Common.{◌≡◌, ℕ, zero, suc, Bool, true, false, cond, List, [], ◌∷◌, ◌++◌}
+use Rattle.std.proofs.Common.{length, take, filter, Some, ◌⊎◌, inl, inr, refl, sym, ◌∙◌, ap, subst}
+use Rattle.std.specs.Prelude.{slice_get}
+use Rattle.std.specs.List.{AllZip}
 use Rattle.std.proofs.lemmas.Bool.{cases_Bool, false_from_ne_true, true≢false}
 
 -- what passes both tests, where whatever passes the second passes the first
@@ -18,3 +20,34 @@ filter_within {X} p q within (x ∷ xs) =
           ap (λ b. filter q (first b)) none ∙ rest
           ∙ sym (ap (λ b. cond b (x ∷ filter q xs) (filter q xs)) out)
     ]
+
+-- what stands at a place of a list with one more at its end
+pub slice_get-push : {X : Type 0} (xs : List X) (x : X) (i : ℕ) (y : X)
+    → slice_get (xs ++ x ∷ []) i ≡ Some y
+    → (slice_get xs i ≡ Some y) ⊎ ((i ≡ length xs) × (x ≡ y))
+slice_get-push [] x zero y is = inr (refl, cc)
+slice_get-push [] x (suc i) y is = cc
+slice_get-push (first ∷ xs) x zero y is = inl is
+slice_get-push (first ∷ xs) x (suc i) y is =
+    elim (slice_get-push xs x i y is) [
+      | inl before ↦ inl before
+      | inr last ↦ inr (ap suc last.0, last.1)
+    ]
+
+-- what stands at a place of a front stands there in the whole list
+pub slice_get-take : {X : Type 0} (n : ℕ) (xs : List X) (i : ℕ) (y : X)
+    → slice_get (take n xs) i ≡ Some y → slice_get xs i ≡ Some y
+slice_get-take zero xs i y is = cc
+slice_get-take (suc n) [] i y is = cc
+slice_get-take (suc n) (x ∷ xs) zero y is = is
+slice_get-take (suc n) (x ∷ xs) (suc i) y is = slice_get-take n xs i y is
+
+-- what stands at the same place of another list, and how they are related
+pub beside : {X Y : Type 0} (R : X → Y → Type 0) (xs : List X) (ys : List Y) (i : ℕ) (y : Y)
+    → AllZip R xs ys → slice_get ys i ≡ Some y → (x : X) × (slice_get xs i ≡ Some x) × R x y
+beside R xs [] i y zip is = cc
+beside R [] (y' ∷ ys) i y zip is = absurd zip
+beside R (x ∷ xs) (y' ∷ ys) zero y zip is =
+    let same : y' ≡ y = cc in
+    (x, refl, subst (R x) same zip.0)
+beside R (x ∷ xs) (y' ∷ ys) (suc i) y zip is = beside R xs ys i y zip.1 is

@@ -1,17 +1,25 @@
--- The stations of a network, one more packet on.
+-- The stations of a network and their history, one more packet on.
 use Rattle.std.proofs.Common.{◌≡◌, ◌≢◌, ℕ, ◌<◌, Bool, false, List, [], ◌∷◌, ◌++◌, length}
 use Rattle.std.proofs.Common.{length-set, set, get_or, get_or-set_same, get_or-set_other, inl, inr}
 use Rattle.std.proofs.Common.{sym, ◌∙◌, ap, subst, arith, eqb-true}
 use Rattle.std.proofs.lemmas.Bool.{cases_Bool}
 use Rattle.std.proofs.lemmas.Bool.Decides.{nat_tests}
 use Rattle.std.specs.Prelude.{if◌then◌else◌, ◌==◌}
+use Rattle.plum_base.specs.declared.entry.Entry.{Entry}
 use Rattle.plum_base.specs.declared.packet.Packet.{Packet}
 use Rattle.plum_base.specs.declared.setup.Setup.{Setup}
+use Rattle.plum_base.specs.Lane.{lane_of}
 use Rattle.plum_seq.specs.Keys.{of_station}
+use Rattle.plum_seq.proofs.Stations.{of_station-other}
 use Rattle.plum_core.specs.declared.network.Network.{Network}
 use Rattle.plum_core.specs.declared.station.Station.{Station}
-use Rattle.plum_core.specs.Station.{Stands, StandFor, given_more}
-use Rattle.plum_seq.proofs.Stations.{of_station-other}
+use Rattle.plum_core.specs.declared.station.Taken.{Taken}
+use Rattle.plum_core.specs.declared.station.Taken.TheVariants.{Kept, Repeat}
+use Rattle.plum_core.specs.History.{IsValidHistory}
+use Rattle.plum_core.specs.Station.{Stands, StandFor, Gives, given_more, size_of, HasTaken}
+use Rattle.plum_core.specs.Station.{with_taken}
+use Rattle.plum_core.proofs.Joining.{KeyLaws, HoldsKept-nil, HoldsKept-repeat, HoldsKept-more}
+use Rattle.plum_core.proofs.Joining.{IsValidHistory-nil, IsValidHistory-more}
 use Rattle.plum_core.proofs.Stations.{Stands-same}
 
 -- What was given to the stations is told by the own packets of each.
@@ -85,4 +93,35 @@ module _ (before after : Network) (setup : Setup) (given : ℕ → List Packet) 
               subst chosen (sym is_own) here
           | inr not_own ↦ subst chosen (sym not_own) (other s d not_own below)
         ];
+  }
+
+-- A network to which nothing was given has no history.
+pub HasTaken-nil : (network : Network) (setup : Setup) → StandFor network setup (λ _. [])
+    → HasTaken network setup [] []
+HasTaken-nil network setup stand = record {
+  stand = stand;
+  valid = IsValidHistory-nil setup (size_of network);
+  holds = HoldsKept-nil;
+}
+
+module _ (laws : KeyLaws) (before after : Network) (setup : Setup) (packets : List Packet)
+    (p : Packet) (history : List Entry) (taken : HasTaken before setup packets history)
+    (listed : p.station.0 < size_of before) (same : size_of after ≡ size_of before)
+    (stand : StandFor after setup (given_more (λ _. packets) p)) where
+  -- What becomes of one packet more joins what a network took and gave.
+  pub HasTaken-more : (result : Taken)
+      → Gives setup packets (record { 0 = lane_of setup.lanes p.station.0 }) p result
+      → HasTaken after setup (packets ++ p ∷ []) (with_taken history result)
+  HasTaken-more (Kept e) entry = record {
+    stand = StandFor-yielded after setup packets p stand;
+    valid =
+        subst (λ n. IsValidHistory setup n (history ++ e ∷ [])) (sym same)
+        (IsValidHistory-more laws setup history packets p taken.holds e entry (size_of before)
+        listed taken.valid);
+    holds = HoldsKept-more laws setup history packets p taken.holds e entry;
+  }
+  HasTaken-more (Repeat last) repeat = record {
+    stand = StandFor-yielded after setup packets p stand;
+    valid = subst (λ n. IsValidHistory setup n history) (sym same) taken.valid;
+    holds = HoldsKept-repeat laws.leaves history packets p taken.holds repeat.0;
   }

@@ -16,9 +16,9 @@ use Rattle.plum_engine.specs.Engine.{IsValueOf}
 use Rattle.plum_engine.specs.Level.{IsValue}
 use Rattle.plum_geo.specs.Prediction.{none_or_on_scale, is_shown_by, shown_entries}
 use Rattle.plum_geo.specs.Prediction.{last_value, shown}
+use Rattle.plum_geo.proofs.LastValues.{last_value-push, last_value-push_other}
 use Rattle.plum_core.specs.History.{packet_of, packets_of, IsEntryAfter, IsValidHistory}
 use Rattle.plum_core.proofs.Joining.{IsValidHistory-front}
-use Rattle.plum_core.proofs.Shown.{last_value-push, last_value-push_other}
 use Rattle.plum_seq.proofs.Stations.{of_station-other}
 
 -- a test of order that holds

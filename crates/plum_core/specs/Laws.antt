@@ -1,6 +1,6 @@
 -- The statements of the laws of histories and of the machine. A station's value is known so far
 -- where the cascade passes its input through, and the laws that rest on it have that as a premise.
-use Rattle.std.specs.Prelude.{◌≡◌, ◌≢◌, ◌↔◌, ℕ, ◌<◌, ◌≤◌, List, [], ◌∷◌, ◌++◌, length, take}
+use Rattle.std.specs.Prelude.{◌≡◌, ◌≢◌, ◌↔◌, ℕ, ◌<◌, ◌≤◌, List, [], ◌∷◌, ◌++◌, length, map, take}
 use Rattle.std.specs.Prelude.{slice_get, All, Some, None, IsSomeAnd}
 use Rattle.std.specs.List.{flat_map}
 use Rattle.plum_base.specs.declared.answers.Reading.{Reading}
@@ -11,18 +11,20 @@ use Rattle.plum_base.specs.declared.setup.Setup.{Setup}
 use Rattle.plum_base.specs.Lane.{lane_of}
 use Rattle.plum_base.specs.Levels.{IsLevelTable}
 use Rattle.plum_base.specs.Sites.{SitesView, areas_of}
-use Rattle.plum_seq.specs.Keys.{of_station, kept}
+use Rattle.plum_seq.specs.Keys.{of_station, kept, kept_after}
 use Rattle.plum_engine.specs.Engine.{pass_through, IsValueOf}
 use Rattle.plum_geo.specs.Prediction.{shown}
 use Rattle.plum_core.specs.declared.event.Event.{Event}
 use Rattle.plum_core.specs.declared.event.Reply.{Reply}
 use Rattle.plum_core.specs.History.{packets_of, entries_of_lane, IsEntryAfter, IsValidHistory}
+use Rattle.plum_core.specs.History.{HoldsKept, packet_of}
 use Rattle.plum_core.specs.Facts.{IsInLaneOrder, IsBacklog, KeepsFacts}
 use Rattle.plum_core.specs.Machine.{State, start, step, state_after, waiting_after, AreReplies}
 use Rattle.plum_core.specs.Machine.{IsReadAt, NamesExist}
 use Rattle.plum_core.specs.Transcript.{Transcript, entries_up_to, journal_of}
 use Rattle.plum_base.specs.Sites.{targets_of}
-use Rattle.plum_core.specs.Transcript.{ArePredictions, IsLegal, IsLegalUpTo}
+use Rattle.plum_core.specs.Transcript.{ArePredictions, IsLegal, IsLegalUpTo, IsLegalOver}
+use Rattle.plum_core.specs.Transcript.{AreReadingsOver, with_part, with_readings}
 
 -- The setup's cascade passes its input through, and its table is lawful.
 pub record IsPlain (setup : Setup) : Type 0 where
@@ -46,6 +48,12 @@ abbrev pub FrontOfLane : Type 0
 FrontOfLane = (lane : ℕ) (front rest : List Entry)
     → entries_of_lane lane (front ++ rest) ≡ entries_of_lane lane front ++ entries_of_lane lane rest
 
+-- What joins a history of the kept packets is the kept ones of those that come after.
+abbrev pub PartIsKept : Type 0
+PartIsKept = (history part : List Entry) (earlier packets : List Packet)
+    → HoldsKept history earlier → HoldsKept (history ++ part) (earlier ++ packets)
+    → map packet_of part ≡ kept_after earlier packets
+
 -- A transcript that is legal up to the last segment is legal, and the other way round.
 abbrev pub LegalToTheEnd : Type 0
 LegalToTheEnd = (setup : Setup) (sites : SitesView) (segments : List (List Packet)) (t : Transcript)
@@ -65,6 +73,38 @@ LegalShows = (setup : Setup) (sites : SitesView) (segments : List (List Packet))
     (n s : ℕ) → IsPlain setup → IsLegal setup sites segments t
     → IsValueOf setup (packets_of s (take n (journal_of t)))
     (shown (length sites.stations) (take n (journal_of t)) s)
+
+-- Nothing is legal for no segments.
+abbrev pub LegalAtStart : Type 0
+LegalAtStart = (setup : Setup) (sites : SitesView)
+    → IsLegal setup sites [] (record { parts = []; readings = [] })
+
+-- The entries of one segment more join a legal transcript: all kept ones of its packets, in file
+-- order. The mark of that segment has no readings then.
+abbrev pub PartJoins : Type 0
+PartJoins = (setup : Setup) (sites : SitesView) (segments : List (List Packet)) (t : Transcript)
+    (segment : List Packet) (part : List Entry)
+    → IsLegal setup sites segments t
+    → HoldsKept (journal_of t) (flat_map (λ s. s) segments)
+    → HoldsKept (journal_of t ++ part) (flat_map (λ s. s) segments ++ segment)
+    → IsValidHistory setup (length sites.stations) (journal_of t ++ part)
+    → IsLegalOver setup sites (segments ++ segment ∷ []) (length segments) (with_part t part)
+
+-- Then the readings at that mark join, each over the whole journal.
+abbrev pub ReadingsJoin : Type 0
+ReadingsJoin = (setup : Setup) (sites : SitesView) (segments : List (List Packet))
+    (t : Transcript) (segment : List Packet) (readings : List Reading)
+    → IsLegalOver setup sites (segments ++ segment ∷ []) (length segments) t
+    → AreReadingsOver sites (journal_of t) readings
+    → IsLegal setup sites (segments ++ segment ∷ []) (with_readings t readings)
+
+-- A transcript that is right with readings at so many marks is right with those of the first of
+-- them alone.
+abbrev pub FewerReadings : Type 0
+FewerReadings = (setup : Setup) (sites : SitesView) (segments : List (List Packet))
+    (read fewer : ℕ) (t : Transcript) → fewer ≤ read → IsLegalOver setup sites segments read t
+    → IsLegalOver setup sites segments fewer
+    (record { parts = t.parts; readings = take fewer t.readings })
 
 -- A packet taken by a lane in which nothing waits keeps the lane's backlog.
 abbrev pub TakingKeeps : Type 0

@@ -13,7 +13,7 @@ use Rattle.plum_core.specs.declared.network.Network.{Network}
 use Rattle.plum_core.specs.declared.station.Station.{Station}
 use Rattle.plum_core.specs.declared.station.Taken.{Taken}
 use Rattle.plum_core.specs.declared.station.Taken.TheVariants.{Kept, Repeat}
-use Rattle.plum_core.specs.History.{packet_of}
+use Rattle.plum_core.specs.History.{packet_of, IsValidHistory, HoldsKept}
 
 -- Station s of this setup was given its packets of these since it was made.
 pub record Stands (station : Station) (setup : Setup) (s : ℕ) (packets : List Packet) : Type 0 where
@@ -40,6 +40,27 @@ pub record StandFor (network : Network) (setup : Setup) (given : ℕ → List Pa
   pub lanes : network.lanes ≡ setup.lanes
   pub each : (s : ℕ) (d : Station) → s < length network.stations.items
       → Stands (slice_index_or network.stations.items s d) setup s (given s)
+
+-- how many lanes its stations are shared among
+abbrev pub lanes_of : Network → ℕ
+lanes_of network = network.lanes
+
+-- how many stations it has
+abbrev pub size_of : Network → ℕ
+size_of network = length network.stations.items
+
+-- A network of this setup took these packets since it was made, and gave the entries of this
+-- history, which is valid and holds exactly the kept ones.
+pub record HasTaken (network : Network) (setup : Setup) (packets : List Packet)
+    (history : List Entry) : Type 0 where
+  pub stand : StandFor network setup (λ _. packets)
+  pub valid : IsValidHistory setup (size_of network) history
+  pub holds : HoldsKept history packets
+
+-- The history, one packet more on: the entry of a kept packet joins it.
+abbrev pub with_taken : List Entry → Taken → List Entry
+with_taken history (Kept e) = history ++ e ∷ []
+with_taken history (Repeat last) = history
 
 -- what the stations were given, one more packet on
 abbrev pub given_more : (ℕ → List Packet) → Packet → ℕ → List Packet

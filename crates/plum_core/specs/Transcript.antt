@@ -61,6 +61,27 @@ abbrev pub ArePredictions : List StationSite → List Entry → List TargetSite 
 ArePredictions stations history targets answers =
     AllZip (IsPredictionOver stations history) targets answers
 
+-- The reading of an area over a whole history: its length, and the predictions at the area's
+-- targets.
+pub record IsReadingOver (sites : SitesView) (history : List Entry) (area : List ℕ)
+    (reading : Reading) : Type 0 where
+  pub front : reading.front ≡ length history
+  pub answers : ArePredictions sites.stations history (targets_of area sites.targets)
+      reading.answers
+
+-- a reading for each area
+abbrev pub AreReadingsOver : SitesView → List Entry → List Reading → Type 0
+AreReadingsOver sites history readings =
+    AllZip (IsReadingOver sites history) (areas_of sites.targets) readings
+
+-- one part more
+abbrev pub with_part : Transcript → List Entry → Transcript
+with_part t part = record { parts = t.parts ++ part ∷ []; readings = t.readings }
+
+-- the readings at one mark more
+abbrev pub with_readings : Transcript → List Reading → Transcript
+with_readings t readings = record { parts = t.parts; readings = t.readings ++ readings ∷ [] }
+
 -- The transcript is right for these segments, given as packets, where so many marks have readings.
 pub record IsLegalOver (setup : Setup) (sites : SitesView)
     (segments : List (List Packet)) (read : ℕ) (t : Transcript) : Type 0 where

@@ -2,6 +2,8 @@
 
 ghost use Rattle.plum_core.specs.Laws.{ShowsItsValue, FrontIsValid, FrontOfLane};
 ghost use Rattle.plum_core.specs.Laws.{LegalToTheEnd, LegalByStation, LegalShows, TakingKeeps};
+ghost use Rattle.plum_core.specs.Laws.{PartIsKept, LegalAtStart, PartJoins, ReadingsJoin};
+ghost use Rattle.plum_core.specs.Laws.{FewerReadings};
 ghost use Rattle.plum_core.specs.Laws.{NextEntryJoins, WaitingEntryJoins, OrderJoins, OrderStays};
 ghost use Rattle.plum_core.specs.Laws.{SendingKeeps, FactsAtStart, StepKeepsFacts, EventsKeepFacts};
 ghost use Rattle.plum_core.specs.Laws.{FrontIsGathered, AnswersArePredictions, FrontIsPublished};
@@ -17,20 +19,26 @@ pub fn station_shows_its_value()
     ensures { ShowsItsValue }
 {}
 
-/// What a front of a history keeps.
+/// What a front of a history keeps, and what joins it.
 pub fn histories()
     ensures valid { FrontIsValid }
     ensures lane { FrontOfLane }
+    ensures part { PartIsKept }
 {
     // For the contract: what is known of keys.
     kept_packets();
 }
 
-/// What a legal transcript says of each station, and when a transcript is legal up to the end.
+/// What a legal transcript says of each station, how it goes on by one segment, and when a
+/// transcript is legal up to the end.
 pub fn legal_transcripts()
     ensures end { LegalToTheEnd }
     ensures by_station { LegalByStation }
     ensures shows { LegalShows }
+    ensures start { LegalAtStart }
+    ensures part { PartJoins }
+    ensures readings { ReadingsJoin }
+    ensures fewer { FewerReadings }
 {
     // For the contract: what is known of keys.
     kept_packets();

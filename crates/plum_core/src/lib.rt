@@ -1,26 +1,27 @@
-//! Histories, what makes a transcript legal, and the machine over events: the core of a centre,
-//! without a thread.
+//! Stations at work, histories, what makes a transcript legal, and the machine over events: the
+//! core of a centre, without a thread.
 //!
-//! It promises a valid history of exactly the kept packets, the predictions over a history, the
-//! replies of the machine, and its laws. It knows nothing of bytes, of hosts, nor of lines.
+//! It promises a network of stations whose entries are a valid history of exactly the kept packets,
+//! the predictions over a history, how a legal transcript goes on, the replies of the machine, and
+//! its laws. It knows nothing of bytes, of hosts, nor of lines.
 #![tactic(auto)]
 
 mod area;
 mod event;
-mod history;
 mod laws;
 mod machine;
 mod network;
 mod playing;
-mod predict;
 mod station;
 
 pub use area::read_area;
 pub use event::{Event, Reply};
-pub use history::history_of;
 pub use laws::{
     histories, legal_transcripts, machine_keeps_facts, machine_replies_in_one_way,
     readings_are_predictions, sending_keeps_validity, station_shows_its_value,
     taking_keeps_backlog,
 };
+pub use network::Network;
 pub use playing::play;
+pub use plum_geo::near_stations_are_those_near;
+pub use station::Taken;

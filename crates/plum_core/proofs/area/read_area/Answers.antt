@@ -30,7 +30,8 @@ loop-target-preserved c =
           let of_area = after true (sym c.eq.ensures ∙ w.if-eq.true) in
           rw (one_more, ← c.target-item.is, of_area, w.answers-is, w.in_ok-push.ensures.ok)
           (all_zipped_more (IsPredictionOver stations history) (targets_of area front)
-          c.loop-target.answers target w.predict.result c.loop-target.invariant w.predict.ensures)
+          c.loop-target.answers target w.predict.result c.loop-target.invariant
+          (w.predict.ensures history c.in_ok-shown.ensures))
       | else-eq w ↦
           let of_another =
           after false (sym c.eq.ensures ∙ w.if-eq.false) ∙ append-nil (targets_of area front) in

@@ -8,6 +8,7 @@ use Rattle.plum_base.specs.declared.entry.Entry.{Entry}
 use Rattle.plum_core.specs.History.{IsValidHistory}
 use Rattle.plum_core.specs.Transcript.{journal_of, IsLegalOver}
 use Rattle.plum_core.proofs.Joining.{IsValidHistory-front}
+use Rattle.plum_core.proofs.GoingOn.{nothing_legal, part_joins, readings_join, less_is_legal}
 use Rattle.plum_core.proofs.Legal.{packets_of-parts}
 use Rattle.plum_core.proofs.Showing.{shows_its_value}
 use Rattle.plum_core.proofs.laws.legal_transcripts.Goals as goal
@@ -41,3 +42,16 @@ returns-clause-shows c = λ setup sites segments t n s plain legal.
     IsValidHistory-front setup stations (take n journal) (drop n journal)
     (subst (IsValidHistory setup stations) (sym (take-append-drop n journal)) legal.valid) in
     shows_its_value setup stations s plain.table (take n journal) valid
+
+pub returns-clause-start : goal.returns-clause-start
+returns-clause-start c = nothing_legal
+
+pub returns-clause-part : goal.returns-clause-part
+returns-clause-part c = λ setup sites segments t segment part legal.
+    part_joins setup sites segments t segment part legal c.kept_packets.ensures.parts
+
+pub returns-clause-readings : goal.returns-clause-readings
+returns-clause-readings c = readings_join
+
+pub returns-clause-fewer : goal.returns-clause-fewer
+returns-clause-fewer c = less_is_legal

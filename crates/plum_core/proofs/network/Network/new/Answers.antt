@@ -2,6 +2,7 @@ use Rattle.std.proofs.Common.{ℕ, ◌+◌, [], refl, ◌∙◌, ap}
 use Rattle.std.proofs.lemmas.List.{length_push}
 use Rattle.std.proofs.lemmas.List.Elements.{All-push}
 use Rattle.plum_core.specs.Station.{Stands}
+use Rattle.plum_core.proofs.Networks.{HasTaken-nil}
 use Rattle.plum_core.proofs.network.Network.new.Goals as goal
 
 pub loop-preserved : goal.loop-preserved
@@ -22,3 +23,6 @@ returns-clause-stand c = record {
   lanes = refl;
   each = λ s d below. c.loop.invariant.each s d below s;
 }
+
+pub returns-clause-start : goal.returns-clause-start
+returns-clause-start c = HasTaken-nil _ c.args.setup.now (returns-clause-stand c)

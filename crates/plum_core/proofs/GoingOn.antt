@@ -1,0 +1,306 @@
+-- A legal transcript goes on by one segment.
+use Rattle.std.proofs.Common.{◌≡◌, ℕ, zero, suc, ◌+◌, ◌-◌, ◌≤◌, ◌⊎◌, List, [], ◌∷◌, ◌++◌, length}
+use Rattle.std.proofs.Common.{map, take, Some, inl, inr, refl, sym, ◌∙◌, ap, subst, arith}
+use Rattle.std.proofs.Common.{append-nil, append_assoc, length-append}
+use Rattle.std.proofs.lemmas.List.{append_cancel_left, map-append, flat_map_more, take-append-le}
+use Rattle.std.proofs.lemmas.List.{take_all, length_push, length-take-le}
+use Rattle.std.proofs.lemmas.List.Elements.{All-nil, All-push, All-take}
+use Rattle.std.proofs.lemmas.Option.{slice_get_within, same_Some}
+use Rattle.std.proofs.lemmas.Slice.Zip.{all_zipped_more, AllZip-long}
+use Rattle.std.specs.Prelude.{slice_get}
+use Rattle.std.specs.List.{flat_map, AllZip}
+use Rattle.plum_base.specs.declared.answers.Reading.{Reading}
+use Rattle.plum_base.specs.declared.entry.Entry.{Entry}
+use Rattle.plum_base.specs.declared.packet.Packet.{Packet}
+use Rattle.plum_base.specs.declared.setup.Setup.{Setup}
+use Rattle.plum_base.specs.Sites.{SitesView, areas_of, targets_of}
+use Rattle.plum_seq.specs.Keys.{kept_after, kept}
+use Rattle.plum_seq.specs.Laws.{KeptInParts}
+use Rattle.plum_core.specs.History.{packet_of, IsValidHistory, HoldsKept}
+use Rattle.plum_core.specs.Laws.{LegalAtStart}
+use Rattle.plum_core.specs.Transcript.{Transcript, entries_up_to, journal_of, IsReadingAt}
+use Rattle.plum_core.specs.Transcript.{kept_in_segments_after, kept_in_segments, of_lane}
+use Rattle.plum_core.specs.Transcript.{HoldsByLane, ArePredictions, IsReadingOver, AreReadingsOver}
+use Rattle.plum_core.specs.Transcript.{with_part, with_readings, IsLegal, IsLegalOver}
+use Rattle.plum_core.proofs.Joining.{IsValidHistory-nil}
+use Rattle.plum_core.proofs.Lists.{slice_get-push, slice_get-take, beside}
+
+-- the lists joined
+abbrev joined : {X : Type 0} → List (List X) → List X
+joined xss = flat_map (λ xs. xs) xss
+
+-- A front of lists holds no more than all of them,
+front_within : {X : Type 0} (n : ℕ) (xss : List (List X))
+    → length (joined (take n xss)) ≤ length (joined xss)
+front_within zero xss = omega arith
+front_within (suc n) [] = omega arith
+front_within (suc n) (xs ∷ xss) =
+    let rest = front_within n xss in
+    omega (arith, length-append xs (joined (take n xss)), length-append xs (joined xss))
+
+-- and no more than the front so long once others join at the end.
+front_grows : {X : Type 0} (n : ℕ) (xss yss : List (List X))
+    → length (joined (take n xss)) ≤ length (joined (take n (xss ++ yss)))
+front_grows zero xss yss = omega arith
+front_grows (suc n) [] yss = omega arith
+front_grows (suc n) (xs ∷ xss) yss =
+    let rest = front_grows n xss yss in
+    omega (
+      arith,
+      length-append xs (joined (take n xss)),
+      length-append xs (joined (take n (xss ++ yss))),
+    )
+
+-- the kept packets of one segment more, which come after those of the others
+kept_in_segments-push : (earlier : List Packet) (segments : List (List Packet))
+    (segment : List Packet)
+    → kept_in_segments_after earlier (segments ++ segment ∷ [])
+    ≡ kept_in_segments_after earlier segments
+    ++ kept_after (earlier ++ joined segments) segment ∷ []
+kept_in_segments-push earlier [] segment =
+    ap (λ before. kept_after before segment ∷ []) (sym (append-nil earlier))
+kept_in_segments-push earlier (first ∷ segments) segment =
+    let rest = kept_in_segments_after (earlier ++ first) segments in
+    ap (λ others. kept_after earlier first ∷ others)
+    (kept_in_segments-push (earlier ++ first) segments segment
+    ∙ ap (λ before. rest ++ kept_after before segment ∷ [])
+    (append_assoc earlier first (joined segments)))
+
+-- so many parts as segments
+length-parts : (lanes : ℕ) (earlier : List Packet) (segments : List (List Packet))
+    (parts : List (List Entry))
+    → AllZip (HoldsByLane lanes) parts (kept_in_segments_after earlier segments)
+    → length parts ≡ length segments
+length-parts lanes earlier [] [] zip = refl
+length-parts lanes earlier [] (part ∷ parts) zip = absurd zip
+length-parts lanes earlier (segment ∷ segments) [] zip = absurd zip
+length-parts lanes earlier (segment ∷ segments) (part ∷ parts) zip =
+    ap suc (length-parts lanes (earlier ++ segment) segments parts zip.1)
+
+-- What joins a history of the kept packets is the kept ones of what comes after.
+pub kept_part : KeptInParts → (history part : List Entry) (earlier packets : List Packet)
+    → HoldsKept history earlier → HoldsKept (history ++ part) (earlier ++ packets)
+    → map packet_of part ≡ kept_after earlier packets
+kept_part in_parts history part earlier packets holds whole =
+    append_cancel_left (kept earlier) _ _
+    (ap (λ front. front ++ map packet_of part) (sym holds)
+    ∙ sym (map-append packet_of history part) ∙ whole ∙ in_parts [] earlier packets)
+
+-- Nothing is legal for no segments.
+pub nothing_legal : LegalAtStart
+nothing_legal setup sites = record {
+  valid = IsValidHistory-nil setup (length sites.stations);
+  complete = tt;
+  marks = refl;
+  areas = All-nil _;
+  bounds = λ m a reading at. let none = at.mark in cc;
+  rising = λ m a earlier later at after. let none = at.mark in cc;
+  answers = λ m a reading area at is. let none = at.mark in cc;
+}
+
+-- no more at a mark than in the whole journal
+mark_within : (m : ℕ) (t : Transcript) → length (entries_up_to m t) ≤ length (journal_of t)
+mark_within m t = front_within m t.parts
+
+module _ (setup : Setup) (sites : SitesView) where
+  module _ (segments : List (List Packet)) (t : Transcript) (segment : List Packet)
+      (part : List Entry) (legal : IsLegal setup sites segments t) where
+    -- the transcript, one part more on
+    abbrev longer : Transcript
+    longer = with_part t part
+
+    -- its journal
+    journal_longer : journal_of t ++ part ≡ journal_of longer
+    journal_longer = flat_map_more (λ (p : List Entry). p) [] t.parts part
+
+    -- Its readings are those before.
+    was : (m a : ℕ) (reading : Reading) → IsReadingAt longer m a reading → IsReadingAt t m a reading
+    was m a reading at = record {
+      from_one = at.from_one;
+      of_mark = at.of_mark;
+      mark = at.mark;
+      area = at.area;
+    }
+
+    -- Each part holds the kept packets of its segment.
+    complete_longer : map packet_of part ≡ kept_after (joined segments) segment
+        → AllZip (HoldsByLane setup.lanes) longer.parts
+        (kept_in_segments (segments ++ segment ∷ []))
+    complete_longer kept_ones =
+        subst (AllZip (HoldsByLane setup.lanes) longer.parts)
+        (sym (kept_in_segments-push [] segments segment))
+        (all_zipped_more (HoldsByLane setup.lanes) t.parts (kept_in_segments segments) part
+        (kept_after (joined segments) segment) legal.complete
+        (λ lane. ap (of_lane setup.lanes lane) kept_ones))
+
+    module _ (m a : ℕ) (reading : Reading) (at : IsReadingAt t m a reading) where
+      -- A mark that has readings has its part, so its front is as before, and the next one grows.
+      bounds_longer : (length (entries_up_to m longer) ≤ reading.front)
+          × (reading.front ≤ length (entries_up_to (m + 1) longer))
+      bounds_longer =
+          let from = at.from_one in
+          let within = slice_get_within t.readings (m - 1) at.of_mark at.mark in
+          let count = length-parts setup.lanes [] segments t.parts legal.complete in
+          let has_part : m ≤ length t.parts = omega (arith, legal.marks) in
+          let bound = legal.bounds m a reading at in
+          let lower : length (entries_up_to m longer) ≤ reading.front =
+          rw (take-append-le m t.parts (part ∷ []) has_part) bound.0 in
+          (lower, omega (arith, bound.1, front_grows (m + 1) t.parts (part ∷ [])))
+
+      -- Its answers are over the same front.
+      answers_longer : (area : List ℕ) → slice_get (areas_of sites.targets) a ≡ Some area
+          → ArePredictions sites.stations (take reading.front (journal_of longer))
+          (targets_of area sites.targets) reading.answers
+      answers_longer area is =
+          let upper = (legal.bounds m a reading at).1 in
+          let within : reading.front ≤ length (journal_of t) =
+          omega (arith, upper, mark_within (m + 1) t) in
+          let same : take reading.front (journal_of longer) ≡ take reading.front (journal_of t) =
+          ap (take reading.front) (sym journal_longer)
+          ∙ take-append-le reading.front (journal_of t) part within in
+          rw same (legal.answers m a reading area at is)
+
+    -- The part of one segment more joins.
+    pub part_joins : KeptInParts → HoldsKept (journal_of t) (joined segments)
+        → HoldsKept (journal_of t ++ part) (joined segments ++ segment)
+        → IsValidHistory setup (length sites.stations) (journal_of t ++ part)
+        → IsLegalOver setup sites (segments ++ segment ∷ []) (length segments) longer
+    part_joins in_parts holds whole valid = record {
+      valid = subst (IsValidHistory setup (length sites.stations)) journal_longer valid;
+      complete =
+          complete_longer
+          (kept_part in_parts (journal_of t) part (joined segments) segment holds whole);
+      marks = legal.marks;
+      areas = legal.areas;
+      bounds = λ m a reading at. bounds_longer m a reading (was m a reading at);
+      rising = λ m a earlier later at after.
+          legal.rising m a earlier later (was m a earlier at) (was (m + 1) a later after);
+      answers = λ m a reading area at. answers_longer m a reading (was m a reading at) area;
+    }
+
+  module _ (segments : List (List Packet)) (t : Transcript) (segment : List Packet)
+      (readings : List Reading)
+      (legal : IsLegalOver setup sites (segments ++ segment ∷ []) (length segments) t)
+      (read : AreReadingsOver sites (journal_of t) readings) where
+    -- the transcript, with the readings at one mark more
+    abbrev read_on : Transcript
+    read_on = with_readings t readings
+
+    -- a reading at the new mark, which is the last
+    record IsNew (m a : ℕ) (reading : Reading) : Type 0 where
+      last : m ≡ length t.parts
+      area : List ℕ
+      name : slice_get (areas_of sites.targets) a ≡ Some area
+      over : IsReadingOver sites (journal_of t) area reading
+
+    -- Each reading is one of those before, or at the new mark.
+    old_or_new : (m a : ℕ) (reading : Reading) → IsReadingAt read_on m a reading
+        → IsReadingAt t m a reading ⊎ IsNew m a reading
+    old_or_new m a reading at =
+        elim (slice_get-push t.readings readings (m - 1) at.of_mark at.mark) [
+          | inl old ↦
+              inl (record {
+                from_one = at.from_one;
+                of_mark = at.of_mark;
+                mark = old;
+                area = at.area;
+              })
+          | inr last ↦
+              let here : slice_get readings a ≡ Some reading =
+              ap (λ rs. slice_get rs a) last.1 ∙ at.area in
+              let its_area = beside (IsReadingOver sites (journal_of t)) (areas_of sites.targets)
+              readings a reading read here in
+              let count = length-parts setup.lanes [] (segments ++ segment ∷ []) t.parts
+              legal.complete in
+              let from = at.from_one in
+              let place = last.0 in
+              inr (record {
+                last = omega (arith, legal.marks, length_push segments segment);
+                area = its_area.0;
+                name = its_area.1;
+                over = its_area.2;
+              })
+        ]
+
+    -- The front of the new ones is the whole journal.
+    bounds_read_on : (m a : ℕ) (reading : Reading) → IsReadingAt read_on m a reading
+        → (length (entries_up_to m t) ≤ reading.front)
+        × (reading.front ≤ length (entries_up_to (m + 1) t))
+    bounds_read_on m a reading at =
+        elim (old_or_new m a reading at) [
+          | inl old ↦ legal.bounds m a reading old
+          | inr new ↦
+              let front = new.over.front in
+              let last = new.last in
+              let whole : length (entries_up_to (m + 1) t) ≡ length (journal_of t) =
+              ap (λ parts. length (joined parts)) (take_all (m + 1) t.parts (omega arith)) in
+              (omega (arith, mark_within m t), omega arith)
+        ]
+
+    -- Their answers are over the whole journal.
+    answers_read_on : (m a : ℕ) (reading : Reading) (area : List ℕ)
+        → IsReadingAt read_on m a reading → slice_get (areas_of sites.targets) a ≡ Some area
+        → ArePredictions sites.stations (take reading.front (journal_of t))
+        (targets_of area sites.targets) reading.answers
+    answers_read_on m a reading area at is =
+        elim (old_or_new m a reading at) [
+          | inl old ↦ legal.answers m a reading area old is
+          | inr new ↦
+              let same : new.area ≡ area = same_Some _ _ (sym new.name ∙ is) in
+              let whole : take reading.front (journal_of t) ≡ journal_of t =
+              ap (λ n. take n (journal_of t)) new.over.front
+              ∙ take_all (length (journal_of t)) (journal_of t) (omega arith) in
+              rw whole
+              (subst (λ name. ArePredictions sites.stations (journal_of t)
+              (targets_of name sites.targets) reading.answers) same new.over.answers)
+        ]
+
+    -- The readings at one mark more join. A front is at most the journal at the next mark, which is
+    -- at most the next front.
+    pub readings_join : IsLegal setup sites (segments ++ segment ∷ []) read_on
+    readings_join = record {
+      valid = legal.valid;
+      complete = legal.complete;
+      marks =
+          length_push t.readings readings ∙ ap (λ n. n + 1) legal.marks
+          ∙ sym (length_push segments segment);
+      areas =
+          All-push (λ rs. length rs ≡ length (areas_of sites.targets)) t.readings readings
+          legal.areas (AllZip-long _ _ readings read);
+      bounds = bounds_read_on;
+      rising = λ m a earlier later at after.
+          let first = bounds_read_on m a earlier at in
+          let second = bounds_read_on (m + 1) a later after in
+          omega (arith, first.1, second.0);
+      answers = answers_read_on;
+    }
+
+  module _ (segments : List (List Packet)) (read fewer : ℕ) (t : Transcript) (few : fewer ≤ read)
+      (legal : IsLegalOver setup sites segments read t) where
+    -- the transcript with the readings at the first marks alone
+    abbrev read_less : Transcript
+    read_less = record { parts = t.parts; readings = take fewer t.readings }
+
+    -- Its readings are among those of the transcript.
+    among : (m a : ℕ) (reading : Reading) → IsReadingAt read_less m a reading
+        → IsReadingAt t m a reading
+    among m a reading at = record {
+      from_one = at.from_one;
+      of_mark = at.of_mark;
+      mark = slice_get-take fewer t.readings (m - 1) at.of_mark at.mark;
+      area = at.area;
+    }
+
+    -- So it is right.
+    pub less_is_legal : IsLegalOver setup sites segments fewer read_less
+    less_is_legal = record {
+      valid = legal.valid;
+      complete = legal.complete;
+      marks = length-take-le fewer t.readings (omega (arith, legal.marks));
+      areas =
+          All-take (λ rs. length rs ≡ length (areas_of sites.targets)) fewer t.readings legal.areas;
+      bounds = λ m a reading at. legal.bounds m a reading (among m a reading at);
+      rising = λ m a earlier later at after.
+          legal.rising m a earlier later (among m a earlier at) (among (m + 1) a later after);
+      answers = λ m a reading area at. legal.answers m a reading area (among m a reading at);
+    }
