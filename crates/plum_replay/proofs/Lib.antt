@@ -1,0 +1,17 @@
+pub mod Capturing
+pub mod Takings
+pub mod Lists
+pub mod ByNumber
+pub mod SameEntries
+pub mod Decodings
+pub mod ToldJournal
+pub mod Predicted
+pub mod ToldSections
+pub mod ToldReplay
+pub mod PartTexts
+pub mod Marks
+pub mod OneMore
+pub mod Beginnings
+pub mod Writings
+pub mod Endings
+pub mod Stopping

@@ -1,0 +1,20 @@
+use Rattle.std.proofs.Common.{◌+◌, [], ◌∙◌, ap}
+use Rattle.std.proofs.lemmas.List.{length_push}
+use Rattle.std.proofs.lemmas.List.Elements.{All-push}
+use Rattle.plum_alert.specs.Desk.{StandsFor}
+use Rattle.plum_replay.proofs.desks.new_desks.Goals as goal
+
+pub loop-preserved : goal.loop-preserved
+loop-preserved c =
+    let before = c.loop.invariant in
+    record {
+      count =
+          rw c.in_ok-push.ensures.items
+          (length_push c.loop.desks.items _ ∙ ap (λ n. n + 1) before.count);
+      each =
+          rw c.in_ok-push.ensures.items
+          (All-push (λ desk. StandsFor desk c.args.rules.now []) _ _ before.each c.new.ensures);
+    }
+
+pub returns-clause-start : goal.returns-clause-start
+returns-clause-start c = λ a d below. c.loop.invariant.each a d below

@@ -1,0 +1,49 @@
+-- A capture that is read whole, or as far as a fault.
+use Rattle.std.specs.Prelude.{◌≡◌, ℕ, ◌≤◌, List, [], ◌++◌, length, sum_by, Option, Some, All}
+use Rattle.std.specs.List.{AllZip}
+use Rattle.plum_base.specs.declared.sites.StationSite.{StationSite}
+use Rattle.plum_host.specs.declared.host.In.TheVariants.{Capture}
+use Rattle.plum_host.specs.Told.{HostView}
+use Rattle.plum_packet.specs.Reading.{MOST_RECORDS, HasMoreRecords, HoldsBodies, bodies_in}
+use Rattle.plum_packet.specs.declared.segment.Segment.{Segment}
+use Rattle.plum_packet.specs.Capture.{AreRecords, HasRecord}
+use Rattle.plum_packet.specs.Segments.{Decoded, IsCaptureOf}
+use Rattle.plum_core.specs.History.{AreListed}
+
+-- how many bodies these segments have
+abbrev pub all_bodies_in : List Segment → ℕ
+all_bodies_in segments = sum_by bodies_in segments
+
+-- Their packets are of listed stations, where there are this many.
+abbrev pub HoldListed : ℕ → List Segment → Type 0
+HoldListed stations segments = All (λ s. AreListed stations s.packets.items) segments
+
+-- Where the host tells the capture, it is these segments and a tail of this length; it is read to
+-- its end, and has no more records than a replay takes.
+abbrev pub IsReadWhole : List StationSite → List Segment → ℕ → HostView → HostView → Type 0
+IsReadWhole stations segments tail before after = (capture : List ℕ)
+    → before.left Capture ≡ Some capture
+    → (decoded : List (List Decoded)) × AllZip HoldsBodies segments decoded
+    × IsCaptureOf stations capture decoded tail × (after.left Capture ≡ Some [])
+    × (¬ HasMoreRecords capture MOST_RECORDS)
+
+-- Where this is left of the capture, no more records were taken than a replay takes, and another is
+-- not whole.
+pub record IsWithinLimit (capture : List ℕ) (left : Option (List ℕ)) : Type 0 where
+  pub bodies : List (List ℕ)
+  pub ahead : List ℕ
+  pub rest : List ℕ
+  pub told : left ≡ Some rest
+  pub records : AreRecords capture bodies (ahead ++ rest)
+  pub few : length bodies ≤ MOST_RECORDS
+  pub no_more : ¬ HasRecord ahead
+
+-- Where the host tells the capture: a read failed within the limit.
+abbrev pub FailsWithin : HostView → HostView → Type 0
+FailsWithin before after = (capture : List ℕ) → before.left Capture ≡ Some capture
+    → IsWithinLimit capture (after.left Capture)
+
+-- Where the host tells the capture, it has more records than a replay takes.
+abbrev pub HasTooMany : HostView → Type 0
+HasTooMany before = (capture : List ℕ) → before.left Capture ≡ Some capture
+    → HasMoreRecords capture MOST_RECORDS

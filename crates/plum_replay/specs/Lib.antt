@@ -1,0 +1,10 @@
+pub mod Sections
+pub mod Parts
+pub mod Faults
+pub mod Captured
+pub mod Centre
+pub mod Taking
+pub mod Replayed
+pub mod Begun
+pub mod Written
+pub mod Laws
