@@ -6,7 +6,7 @@ use Rattle.plum_base.specs.declared.setup.Setup.{Setup}
 use Rattle.plum_base.specs.declared.rules.Class.TheVariants.{C3, C4}
 use Rattle.plum_base.specs.Levels.{LevelsView}
 use Rattle.plum_base.specs.Sites.{SitesView}
-use Rattle.plum_engine.specs.Engine.{pass_through}
+use Rattle.plum_core.specs.Engine.{pass_through}
 
 -- 2.0 from the amplitude 0 on, 2.1 from 10, 2.2 from 20 and 2.3 from 30
 abbrev pub built_in_table : LevelsView

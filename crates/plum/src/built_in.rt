@@ -1,7 +1,8 @@
 //! The built-in setup, station and target.
 
 ghost use Rattle.std.specs.Prelude.{◌≡◌, IfOk};
-ghost use Rattle.plum.specs.BuiltIn.{IsBuiltInSetup, built_in_stations, built_in_targets};
+ghost use Rattle.plum_core.specs.Laws.{IsPlain};
+ghost use Rattle.plum.specs.BuiltIn.{IsBuiltInSetup, built_in_sites};
 
 use arrayvec::ArrayVec;
 use plum_base::{
@@ -12,7 +13,8 @@ use std::alloc::Global;
 
 /// A setup that passes its input through, with the thresholds of 10, 20 and 30 units.
 pub fn built_in_setup() -> Setup
-    ensures { IsBuiltInSetup result }
+    ensures built_in { IsBuiltInSetup result }
+    ensures plain { IsPlain result }
 {
     let stage = Stage {
         b0: 2,
@@ -50,8 +52,7 @@ pub fn built_in_setup() -> Setup
 
 /// One station of code 1 and one target `t1` in the area `a`, both at (0, 0) and without factors.
 pub fn built_in_sites(alloc: Global) -> Result<Sites, NoMemory>
-    ensures { IfOk result (λ sites. (sites.stations ≡ built_in_stations)
-        × (sites.targets ≡ built_in_targets)) }
+    ensures { IfOk result (λ sites. sites ≡ built_in_sites) }
 {
     let at = Point { x: 0, y: 0 };
     let factor = Tenths(0);

@@ -1,28 +1,23 @@
 //! plum: an earthquake early warning centre that replays captures.
 //!
-//! It owns the words, the statuses, and the two texts of a replay. It promises `run`. It must not
-//! know how a record is spelled, how a packet is judged, or how a value is worked out.
+//! It owns the words, the statuses, and the built-in setup and sites. It promises `run`: how each
+//! call ends, and what stands in the outputs then. It must not know how a replay is done: how
+//! packets are read and judged, or how its two texts are spelled.
 #![tactic(auto)]
 
 mod built_in;
 mod job;
-mod packets;
-mod replay;
 mod run;
 mod status;
-mod stop;
-mod text;
-mod texts;
 
 pub use job::paths_of;
 use plum_base::NoMemory;
 use plum_host::StdHost;
 pub use run::run;
-pub use status::{Status, status_number, status_text};
+pub use status::{LimitOf, Status, status_number, status_text};
 use std::env;
 use std::io::{ErrorKind, Write};
 use std::process::ExitCode;
-pub use text::counts::counts_add_up;
 
 /// Does what the words of the command line ask for over files and standard output. Words that are
 /// no text are not of the grammar.

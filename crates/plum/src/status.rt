@@ -3,9 +3,15 @@
 ghost use Rattle.std.specs.Prelude.{◌≡◌, IfOk};
 ghost use Rattle.plum.specs.Status.{number_of, text_of};
 
-use itoa::Buffer;
 use plum_base::{Bytes, NoMemory};
 use std::alloc::Global;
+
+/// What has more than is taken of it.
+#[derive(Clone, Copy, Debug, PartialEq, Eq)]
+pub enum LimitOf {
+    /// The records of the capture.
+    Records,
+}
 
 /// How `run` ended.
 #[derive(Clone, Copy, Debug, PartialEq, Eq)]
@@ -16,9 +22,9 @@ pub enum Status {
     Usage,
     ReadFault,
     WriteFault,
+    /// There is more of it than is taken.
+    Limit(LimitOf),
     NoMemory,
-    /// That record, from 1, is a mark, no packet, or the last that a segment holds.
-    NotYet(u32),
 }
 
 /// The number with which the program ends.
@@ -30,8 +36,8 @@ pub fn status_number(status: &Status) -> u8
         Status::Usage => 2,
         Status::ReadFault => 5,
         Status::WriteFault => 6,
+        Status::Limit(_) => 7,
         Status::NoMemory => 8,
-        Status::NotYet(_) => 10,
     }
 }
 
@@ -47,12 +53,8 @@ pub fn status_text(alloc: Global, status: &Status) -> Result<Bytes, NoMemory>
         )?,
         Status::ReadFault => text.extend(b"plum: read fault\n")?,
         Status::WriteFault => text.extend(b"plum: write fault\n")?,
+        Status::Limit(LimitOf::Records) => text.extend(b"plum: limit records\n")?,
         Status::NoMemory => text.extend(b"plum: no memory\n")?,
-        Status::NotYet(record) => {
-            text.extend(b"plum: not yet ")?;
-            text.extend(Buffer::new().format(*record).as_bytes())?;
-            text.extend(b"\n")?;
-        }
     }
     Ok(text)
 }

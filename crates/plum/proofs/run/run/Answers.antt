@@ -1,27 +1,39 @@
-use Rattle.std.proofs.Common.{◌≡◌, ◌∙◌, sym}
-use Rattle.plum.specs.BuiltIn.{built_in_stations}
+use Rattle.std.proofs.Common.{inl, Err, ap}
+use Rattle.plum.proofs.Nothing.{nothing_done}
 use Rattle.plum.proofs.run.run.Goals as goal
 
--- a capture that is done has no stop
-pub returns-in-Ok-clause-stopped : goal.returns-in-Ok-clause-stopped
-returns-in-Ok-clause-stopped g c = λ capture n cause told stop.
-    let whole = c.in-Ok.ensures.whole in
-    absurd (c.capture_stops_once.ensures.none built_in_stations capture whole.0 whole.1 n cause
-    (whole.2 capture told).0 stop)
+-- memory is short before the work begins
+pub returns-in_default-clause-in_order : goal.returns-in_default-clause-in_order
+returns-in_default-clause-in_order g c = λ _. (
+  c.built_in_setup-setup.result,
+  c.built_in_setup-setup.ensures.built_in,
+  inl (nothing_done (g.H.Host.told c.args.host.now)),
+)
 
--- the stop that is told is the only one
-pub returns-in-Err-NotYet-clause-stopped : goal.returns-in-Err-NotYet-clause-stopped
-returns-in-Err-NotYet-clause-stopped g c = λ capture n cause told stop.
-    let at = c.in-Err-NotYet.number in
-    let here = c.in-Err-NotYet.ensures.stop at c.in-Err-NotYet.field-0-1
-    c.in-Err-NotYet.field-0-is capture told in
-    let same = c.capture_stops_once.ensures.one built_in_stations capture at n _ cause here stop in
-    (λ e. absurd cc, λ m e. let also : at ≡ m = cc in sym also ∙ same)
+-- the two texts are appended
+pub returns-in-Ok-replay-clause-headline : goal.returns-in-Ok-replay-clause-headline
+returns-in-Ok-replay-clause-headline g c = λ _. record {
+  setup = c.built_in_setup-setup.result;
+  built_in = c.built_in_setup-setup.ensures.built_in;
+  totals = c.in-Ok-replay.field-0;
+  replays = rw c.in-Ok.ensures at c.in-Ok-replay.ensures.texts;
+  sums = c.in-Ok-replay.ensures.sums;
+}
 
--- a capture of one segment has none
-pub returns-in-Err-NotYet-clause-one_segment : goal.returns-in-Err-NotYet-clause-one_segment
-returns-in-Err-NotYet-clause-one_segment g c = λ capture packets tail told segment n e.
-    let at = c.in-Err-NotYet.number in
-    let here = c.in-Err-NotYet.ensures.stop at c.in-Err-NotYet.field-0-1
-    c.in-Err-NotYet.field-0-is capture told in
-    c.capture_stops_once.ensures.none built_in_stations capture packets tail at _ segment here
+pub returns-in-Err-Write-clause-write_at_an_end : goal.returns-in-Err-Write-clause-write_at_an_end
+returns-in-Err-Write-clause-write_at_an_end g c =
+    λ _. c.in-Err-Write.ensures.write (ap (λ fault. Err fault) c.in-Err-Write.field-0-is)
+
+pub returns-in-Err-Write-clause-in_order : goal.returns-in-Err-Write-clause-in_order
+returns-in-Err-Write-clause-in_order g c = λ _. (
+  c.built_in_setup-setup.result,
+  c.built_in_setup-setup.ensures.built_in,
+  rw c.in-Ok.ensures at c.in-Err-Write.ensures.in_order,
+)
+
+pub returns-clause-in_order : goal.returns-clause-in_order
+returns-clause-in_order g c = λ _. (
+  c.built_in_setup-setup.result,
+  c.built_in_setup-setup.ensures.built_in,
+  rw c.in-Ok.ensures at c.in-Err-NoMemory.ensures.in_order,
+)

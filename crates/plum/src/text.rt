@@ -1,5 +1,0 @@
-//! The journal and the output.
-
-pub mod counts;
-pub mod journal;
-pub mod output;
