@@ -1,8 +1,8 @@
 #!/usr/bin/env python3
-"""Writes the file `capture` beside this script: 40 seconds of one station, a packet a second.
+"""Writes the file `capture` beside this script: 40 seconds of one station, a packet a second, a mark every ten seconds.
 
 Seconds 0 to 9 are quiet, 10 to 21 shake, and 22 to 39 are quiet again. Packet 5 comes twice, and packet 33 is lost, so
-that the run starts anew at packet 34.
+that the run starts anew at packet 34. Behind packet 24 a packet comes of a station that is not listed.
 """
 
 import math
@@ -10,6 +10,7 @@ import pathlib
 import struct
 
 STATION = 1
+ANOTHER_STATION = 9
 BOOT = 0
 RATE = 100
 
@@ -28,10 +29,10 @@ def sample(second, i):
     return round(a * swing), round(a * swing / 2), round(a * swing / 4)
 
 
-def packet(number):
+def packet(number, station=STATION):
     """The body of a packet, version 1."""
     samples = b"".join(struct.pack(">iii", *sample(number, i)) for i in range(RATE))
-    return b"PL" + struct.pack(">BBHHIH", 1, 0, STATION, BOOT, number, RATE) + samples
+    return b"PL" + struct.pack(">BBHHIH", 1, 0, station, BOOT, number, RATE) + samples
 
 
 def record(body):
@@ -39,9 +40,15 @@ def record(body):
 
 
 def main():
-    numbers = [*range(0, 6), 5, *range(6, 33), *range(34, 40)]
+    bodies = []
+    for number in [*range(0, 6), 5, *range(6, 33), *range(34, 40)]:
+        bodies.append(packet(number))
+        if number == 24:
+            bodies.append(packet(number, ANOTHER_STATION))
+        if number in (9, 19, 29):
+            bodies.append(b"MK")
     path = pathlib.Path(__file__).with_name("capture")
-    path.write_bytes(b"".join(record(packet(number)) for number in numbers))
+    path.write_bytes(b"".join(record(body) for body in bodies))
 
 
 if __name__ == "__main__":
