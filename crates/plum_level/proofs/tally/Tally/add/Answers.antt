@@ -1,0 +1,25 @@
+use Rattle.std.proofs.Common.{◌+◌, ◌<◌, length, get_or, ◌∙◌, arith}
+use Rattle.std.proofs.lemmas.List.{length-set}
+use Rattle.plum_level.proofs.Counting.{from_level-falls, from_level-set}
+use Rattle.plum_level.proofs.tally.Tally.add.Goals as goal
+
+pub overflow_add-self-then-level-self : goal.overflow_add-self-then-level-self
+overflow_add-self-then-level-self c =
+    let before = c.args.self.now in
+    let most = from_level-falls before.counts 0 before.top (omega arith) in
+    omega (arith, c.requires.tally.reached, most)
+
+pub returns-then-level-self-clause-tally : goal.returns-then-level-self-clause-tally
+returns-then-level-self-clause-tally c =
+    let before = c.args.self.now in
+    let more = get_or before.counts c.args.level 0 + 1 in
+    let within : c.args.level < length before.counts = omega (arith, c.requires.tally.places) in
+    record {
+      places = length-set before.counts c.args.level more ∙ c.requires.tally.places;
+      listed = c.requires.tally.listed;
+      reached = omega (
+        arith,
+        c.requires.tally.reached,
+        from_level-set before.counts before.top c.args.level more c.if-level-self.true within,
+      );
+    }
