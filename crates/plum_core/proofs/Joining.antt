@@ -11,7 +11,7 @@ use Rattle.plum_seq.proofs.Pushes.{by_push}
 use Rattle.plum_seq.specs.Keys.{of_station, is_kept, kept_after, kept, is_fresh, with_fresh}
 use Rattle.plum_seq.specs.Laws.{KeptJoins, RepeatLeaves, KeptByStation, FreshAlone, KeptAfterKept}
 use Rattle.plum_seq.specs.Laws.{FreshAfterKept}
-use Rattle.plum_engine.specs.Level.{IsValue}
+use Rattle.plum_engine.specs.Value.{IsValue}
 use Rattle.plum_engine.specs.Run.{samples_since_gap}
 use Rattle.plum_engine.specs.Signal.{amplitudes_of}
 use Rattle.plum_core.specs.History.{packet_of, packets_of, IsEntryAfter, IsValidHistory, HoldsKept}

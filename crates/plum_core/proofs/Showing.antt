@@ -5,7 +5,7 @@ use Rattle.std.proofs.Common.{eqb-true, ltb-false}
 use Rattle.std.proofs.lemmas.Bool.{and_from, cases_Bool}
 use Rattle.std.proofs.lemmas.Int.{ints}
 use Rattle.std.proofs.lemmas.List.{map-append}
-use Rattle.std.specs.Prelude.{◌==◌, nat_lt, if◌then◌else◌, int_le, ℤ, pos, neg_ℤ, ◌≤ℤ◌}
+use Rattle.std.specs.Prelude.{◌==◌, nat_lt, if◌then◌else◌, int_le, ℤ, pos, neg_ℤ, ◌+ℤ◌, ◌≤ℤ◌}
 use Rattle.plum_base.specs.declared.entry.Entry.{Entry}
 use Rattle.plum_base.specs.declared.numbers.Tenths.{Tenths}
 use Rattle.plum_base.specs.declared.setup.Setup.{Setup}
@@ -13,7 +13,7 @@ use Rattle.plum_base.specs.Levels.{LevelsView, IsLevelTable}
 use Rattle.plum_seq.proofs.Pushes.{by_push}
 use Rattle.plum_seq.specs.Keys.{of_station, with_fresh}
 use Rattle.plum_engine.specs.Engine.{IsValueOf}
-use Rattle.plum_engine.specs.Level.{IsValue}
+use Rattle.plum_engine.specs.Value.{IsValue}
 use Rattle.plum_geo.specs.Prediction.{none_or_on_scale, is_shown_by, shown_entries}
 use Rattle.plum_geo.specs.Prediction.{last_value, shown}
 use Rattle.plum_geo.proofs.LastValues.{last_value-push, last_value-push_other}
@@ -33,9 +33,10 @@ on_scale : (table : LevelsView) (amplitudes : List ℕ) (value : Option Tenths) 
     → IsValue table amplitudes value → none_or_on_scale value ≡ true
 on_scale table amplitudes None is_table is = refl
 on_scale table amplitudes (Some v) is_table is =
-    let low : neg_ℤ (pos 100) ≤ℤ v.0 = omega (arith, ints, is_table.base.0, is.3) in
+    let sum : v.0 ≡ table.base.0 +ℤ pos is.0 = ap (λ (t : Tenths). t.0) is.2 in
+    let low : neg_ℤ (pos 100) ≤ℤ v.0 = omega (arith, ints, is_table.base.0, sum) in
     let high : v.0 ≤ℤ pos 227 =
-    omega (arith, ints, is_table.base.1, is_table.few, is.2.listed, is.3) in
+    omega (arith, ints, is_table.base.1, is_table.few, is.1.1.listed, sum) in
     and_from _ _ (le_yes _ _ low) (le_yes _ _ high)
 
 module _ (setup : Setup) (stations s : ℕ) (is_table : IsLevelTable setup.levels) where

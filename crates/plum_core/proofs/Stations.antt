@@ -12,7 +12,7 @@ use Rattle.plum_seq.specs.Keys.{of_station, keys_of, greatest_key, is_kept, is_f
 use Rattle.plum_seq.specs.Laws.{FreshJoins, FreshLeaves, KeptByOwn, FreshByOwn}
 use Rattle.plum_seq.proofs.Stations.{of_station-own}
 use Rattle.plum_engine.specs.Engine.{StandsFor, IsValueOf}
-use Rattle.plum_engine.specs.Level.{IsValue}
+use Rattle.plum_engine.specs.Value.{IsValue}
 use Rattle.plum_engine.specs.Run.{samples_since_gap}
 use Rattle.plum_engine.specs.Signal.{amplitudes_of}
 use Rattle.plum_core.specs.declared.station.Station.{Station}

@@ -1,17 +1,15 @@
--- A run and its window, one more packet on.
-use Rattle.std.proofs.Common.{◌≡◌, ℕ, Bool, true, false, List, [], ◌∷◌, ◌++◌, sym, ◌∙◌, ap}
-use Rattle.std.proofs.Common.{append-nil}
+-- A run and its amplitudes, one more sample and one more packet on.
+use Rattle.std.proofs.Common.{◌≡◌, ℕ, ◌+◌, ◌<◌, Bool, true, false, List, [], ◌∷◌, ◌++◌, length}
+use Rattle.std.proofs.Common.{take, get_or, pos, sym, ◌∙◌, ap, append-nil, append_assoc}
 use Rattle.std.proofs.lemmas.Grind.{flat_map-append}
-use Rattle.std.proofs.lemmas.List.{map-append}
+use Rattle.std.proofs.lemmas.List.{map-append, take_more}
 use Rattle.std.proofs.lemmas.List.Elements.{All-nil}
 use Rattle.std.specs.Prelude.{if◌then◌else◌}
 use Rattle.plum_base.specs.declared.setup.Gain.{Gain}
 use Rattle.plum_base.specs.declared.wave.Sample.{Sample}
-use Rattle.plum_engine.specs.Level.{last_minute}
 use Rattle.plum_engine.specs.Run.{samples_since_gap}
 use Rattle.plum_engine.specs.Signal.{amplitude_of, amplitudes_of}
 use Rattle.plum_engine.proofs.Gaps.{since_gap-is, since_gap-continuing}
-use Rattle.plum_engine.proofs.Minute.{last_minute-append}
 
 module _ (given : List (Bool × List Sample)) (wave : List Sample) where
   -- A fresh packet begins a run.
@@ -25,20 +23,25 @@ module _ (given : List (Bool × List Sample)) (wave : List Sample) where
       rw (since_gap-continuing, flat_map-append)
       (ap (λ xs. samples_since_gap given ++ xs) (append-nil wave))
 
--- the window that an engine has, one more packet on
-pub last_minute-more : (gain : Gain) (given : List (Bool × List Sample)) (fresh : Bool)
-    (wave : List Sample) (window : List ℕ)
-    → window ≡ last_minute (amplitudes_of gain (samples_since_gap given))
-    → last_minute ((if fresh then [] else window) ++ amplitudes_of gain wave)
-    ≡ last_minute (amplitudes_of gain (samples_since_gap (given ++ (fresh, wave) ∷ [])))
-last_minute-more gain given true wave window is =
-    ap (λ run. last_minute (amplitudes_of gain run)) (sym (samples_since_gap-fresh given wave))
-last_minute-more gain given false wave window is =
-    let before = samples_since_gap given in
-    let more = amplitudes_of gain wave in
-    let run : before ++ wave ≡ samples_since_gap (given ++ (false, wave) ∷ []) =
-    sym (samples_since_gap-continuing given wave) in
-    ap (λ w. last_minute (w ++ more)) is
-    ∙ last_minute-append (amplitudes_of gain before) more
-    ∙ ap last_minute (sym (map-append (amplitude_of gain) before wave))
-    ∙ ap (λ samples. last_minute (amplitudes_of gain samples)) run
+  -- The packet's amplitudes join those before, of which a fresh one leaves none.
+  pub amplitudes-more : (gain : Gain) (fresh : Bool)
+      → amplitudes_of gain (samples_since_gap (if fresh then [] else given))
+      ++ amplitudes_of gain wave
+      ≡ amplitudes_of gain (samples_since_gap (given ++ (fresh, wave) ∷ []))
+  amplitudes-more gain true = ap (amplitudes_of gain) (sym samples_since_gap-fresh)
+  amplitudes-more gain false =
+      sym (map-append (amplitude_of gain) (samples_since_gap given) wave)
+      ∙ ap (amplitudes_of gain) (sym samples_since_gap-continuing)
+
+-- the amplitudes of one sample more, behind others
+pub amplitudes-push : (gain : Gain) (before : List ℕ) (samples : List Sample) (i : ℕ)
+    → i < length samples
+    → (let sample = get_or samples i (record { x = pos 0; y = pos 0; z = pos 0 }) in
+    before ++ amplitudes_of gain (take (i + 1) samples)
+    ≡ (before ++ amplitudes_of gain (take i samples)) ++ amplitude_of gain sample ∷ [])
+amplitudes-push gain before samples i below =
+    let sample = get_or samples i (record { x = pos 0; y = pos 0; z = pos 0 }) in
+    ap (λ s. before ++ amplitudes_of gain s) (take_more samples i _ below)
+    ∙ ap (λ s. before ++ s) (map-append (amplitude_of gain) (take i samples) (sample ∷ []))
+    ∙ sym (append_assoc before (amplitudes_of gain (take i samples))
+    (amplitude_of gain sample ∷ []))

@@ -1,5 +1,5 @@
 -- A station's engine, and a station's value.
-use Rattle.std.specs.Prelude.{◌≡◌, ℕ, Bool, pos, List, [], ◌∷◌, Option}
+use Rattle.std.specs.Prelude.{◌≡◌, Bool, pos, List, [], ◌∷◌, Option}
 use Rattle.plum_base.specs.declared.numbers.Tenths.{Tenths}
 use Rattle.plum_base.specs.declared.packet.Packet.{Packet}
 use Rattle.plum_base.specs.declared.wave.Sample.{Sample}
@@ -7,28 +7,30 @@ use Rattle.plum_base.specs.declared.setup.Gain.{Gain}
 use Rattle.plum_base.specs.declared.setup.Setup.{Setup}
 use Rattle.plum_base.specs.declared.cascade.Stage.{Stage}
 use Rattle.plum_base.specs.declared.cascade.Rounding.TheVariants.{Floor}
-use Rattle.plum_base.specs.Levels.{LevelsView, IsLevelTable}
+use Rattle.plum_base.specs.Levels.{IsLevelTable}
+use Rattle.plum_level.specs.Window as windows
 use Rattle.plum_engine.specs.Run.{samples_since_gap, run_of}
 use Rattle.plum_engine.specs.Signal.{amplitudes_of}
-use Rattle.plum_engine.specs.Level.{last_minute, IsValue, value_of_run}
+use Rattle.plum_engine.specs.Value.{IsValue, value_of_run}
 
 -- one stage that gives floor (2 x / 2), and so its input
 abbrev pub pass_through : List Stage
 pass_through =
     record { b0 = pos 2; b1 = pos 0; b2 = pos 0; a1 = pos 0; a2 = pos 0; q = 1; round = Floor } ∷ []
 
--- what an engine shows: its gain, its table, and the squared amplitudes of the run's last minute
+-- what an engine shows: its gain, the tenths at which its table begins, and its window
 pub record EngineView : Type 0 where
   pub gain : Gain
-  pub table : LevelsView
-  pub window : List ℕ
+  pub base : Tenths
+  pub window : windows.WindowView
 
 -- An engine of this setup was given these packets since it was made, each with whether it is fresh.
 pub record StandsFor (engine : EngineView) (setup : Setup) (given : List (Bool × List Sample))
     : Type 0 where
   pub same_gain : engine.gain ≡ setup.gain
-  pub same_table : engine.table ≡ setup.levels
-  pub window : engine.window ≡ last_minute (amplitudes_of setup.gain (samples_since_gap given))
+  pub same_base : engine.base ≡ setup.levels.base
+  pub window : windows.StandsFor engine.window setup.levels
+      (amplitudes_of setup.gain (samples_since_gap given))
 
 -- The value of a station after these packets of it, where the cascade passes its input through:
 -- what the run since the last gap gives, whatever came before it.

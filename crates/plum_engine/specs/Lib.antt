@@ -1,4 +1,4 @@
 pub mod Run
 pub mod Signal
-pub mod Level
+pub mod Value
 pub mod Engine

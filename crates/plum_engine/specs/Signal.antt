@@ -1,13 +1,10 @@
 -- From counts to the squared vector amplitude (the project's own fixed point; the vector amplitude
 -- is that of the JMA intensity).
-use Rattle.std.specs.Prelude.{ℕ, ◌+◌, ◌*◌, ◌^◌, ℤ, pos, neg_ℤ, nat_abs, ◌*ℤ◌, List, map}
-use Rattle.std.specs.Int.{int_min, int_max, int_div_euclid}
+use Rattle.std.specs.Prelude.{ℕ, ◌+◌, ◌*◌, ◌^◌, ℤ, pos, nat_abs, ◌*ℤ◌, List, map}
+use Rattle.std.specs.Int.{int_div_euclid}
 use Rattle.plum_base.specs.declared.setup.Gain.{Gain}
 use Rattle.plum_base.specs.declared.wave.Sample.{Sample}
-
--- cut to -2^30 at the low end and to 2^30 at the high end
-abbrev pub clamped : ℤ → ℤ
-clamped z = int_max (neg_ℤ (pos (2 ^ 30))) (int_min z (pos (2 ^ 30)))
+use Rattle.plum_filter.specs.Stage.{clamped}
 
 -- The gain rule: count * g / 2^h, rounded down and clamped. (At a positive divisor Euclid's
 -- quotient is the one rounded down.)

@@ -1,48 +1,40 @@
 //! A station's engine.
 
-ghost use Rattle.std.specs.Prelude.{◌≡◌, Bool, List, [], ◌∷◌, ◌++◌, IfOk, if◌then◌else◌};
+ghost use Rattle.std.specs.Prelude.{◌≡◌, ℕ, Bool, List, [], ◌∷◌, ◌++◌, IfOk};
 ghost use Rattle.plum_base.specs.declared.wave.Sample.{Sample};
 ghost use Rattle.plum_base.specs.declared.setup.Setup.{Setup};
+ghost use Rattle.plum_base.specs.Levels.{LevelsView};
+ghost use Rattle.plum_base.specs.Setup.{IsGain};
+ghost use Rattle.plum_level.specs.Window as windows;
 ghost use Rattle.plum_engine.specs.Run.{samples_since_gap};
 ghost use Rattle.plum_engine.specs.Signal.{amplitudes_of};
-ghost use Rattle.plum_engine.specs.Level.{last_minute, IsValue};
+ghost use Rattle.plum_engine.specs.Value.{IsValue};
 ghost use Rattle.plum_engine.specs.Engine.{pass_through, StandsFor};
 
-use crate::window::{WINDOW, append, level};
-use arrayvec::ArrayVec;
-use circular_buffer::HeapCircularBuffer;
-use plum_base::{Gain, NoMemory, Setup, Tenths, Wave};
+use crate::signal::amplitude;
+use plum_base::{Gain, NoMemory, Sample, Setup, Tenths, Wave};
+use plum_level::Window;
 use std::alloc::Global;
 use std::marker::Model;
 
-/// The engine of one station. It has the last minute of the squared amplitudes since the last gap.
+/// The engine of one station. Its window is that of the squared amplitudes since the last gap.
 #[derive(Drop)]
 pub struct Engine {
     gain: Gain,
     base: Tenths,
-    thresholds: ArrayVec<u64, 128>,
-    window: HeapCircularBuffer<u64>,
+    window: Window,
 }
 
 impl Model for Engine {
-    ghost use Rattle.std.specs.Prelude.{◌≡◌, ◌≤◌, length};
     ghost use Rattle.plum_base.specs.Setup.{IsGain};
-    ghost use Rattle.plum_base.specs.Levels.{IsLevelTable};
-    ghost use Rattle.plum_engine.specs.Level.{WINDOW};
+    ghost use Rattle.plum_base.specs.Levels.{IsFactor};
     ghost use Rattle.plum_engine.specs.Engine.{EngineView};
 
     ghost Value = { EngineView };
 
-    ghost view = { λ e. record {
-      gain = e.gain;
-      table = record { thresholds = e.thresholds.items; base = e.base };
-      window = e.window.items;
-    } };
+    ghost view = { λ e. record { gain = e.gain; base = e.base; window = e.window } };
 
-    ghost invariant = { λ e. IsGain e.gain.g e.gain.h
-        × IsLevelTable (record { thresholds = e.thresholds.items; base = e.base })
-        × (e.window.capacity ≡ WINDOW)
-        × (length e.window.items ≤ WINDOW) };
+    ghost invariant = { λ e. IsGain e.gain.g e.gain.h × IsFactor e.base };
 }
 
 impl Engine {
@@ -51,15 +43,10 @@ impl Engine {
         requires { setup.now.cascade ≡ pass_through }
         ensures { IfOk result (λ e. StandsFor e setup.now []) }
     {
-        let mut thresholds = ArrayVec::new();
-        for threshold in setup.levels.thresholds() {
-            thresholds.push(*threshold);
-        }
         Ok(Engine {
             gain: setup.gain,
             base: setup.levels.base(),
-            thresholds,
-            window: HeapCircularBuffer::with_capacity(alloc, WINDOW)?,
+            window: Window::new(alloc, &setup.levels)?,
         })
     }
 
@@ -78,23 +65,37 @@ impl Engine {
         self.value()
     }
 
-    /// Appends the squared amplitudes of `wave` to the window, or begins a new one where `fresh`.
+    /// Adds the samples of `wave` to the run, or to a new one where `fresh`.
     fn take_in(&mut self, fresh: bool, wave: &Wave)
-        ensures { let before = (if fresh then [] else self.old.window)
-            in let window = last_minute (before ++ amplitudes_of self.old.gain wave.now)
-            in self.new ≡ record self.old { window = window } }
+        ensures { (setup : Setup) (given : List (Bool × List Sample))
+            → StandsFor self.old setup given
+            → StandsFor self.new setup (given ++ (fresh, wave.now) ∷ []) }
     {
         if fresh {
-            self.window.clear();
+            self.window.reset();
         }
         append(&mut self.window, self.gain, wave.as_slice());
     }
 
-    /// The intensity that the window gives.
+    /// The tenths that the level of the run stands for.
     fn value(&self) -> Option<Tenths>
-        ensures { IsValue self.now.table self.now.window result }
+        ensures { (setup : Setup) (given : List (Bool × List Sample))
+            → StandsFor self.now setup given
+            → IsValue setup.levels (amplitudes_of setup.gain (samples_since_gap given)) result }
     {
-        let level = level(self.thresholds.as_slice(), &self.window)?;
+        let level = self.window.level()?;
         Some(Tenths(self.base.0 + level as i16))
+    }
+}
+
+/// Adds the squared amplitudes of the samples to a window.
+fn append(window: &mut Window, gain: Gain, samples: &[Sample])
+    requires { IsGain gain.g gain.h }
+    ensures { (table : LevelsView) (amplitudes : List ℕ)
+        → windows.StandsFor window.old table amplitudes
+        → windows.StandsFor window.new table (amplitudes ++ amplitudes_of gain samples.now) }
+{
+    for sample in samples {
+        window.push(amplitude(gain, *sample));
     }
 }

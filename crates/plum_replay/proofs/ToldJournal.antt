@@ -7,6 +7,7 @@ use Rattle.std.proofs.lemmas.List.{length-map}
 use Rattle.std.proofs.lemmas.List.Elements.{All-from_recursion}
 use Rattle.std.proofs.lemmas.List.Sums.{sum_by-cons}
 use Rattle.std.specs.List.{AllByRecursion, AllZip, enumerate_from, flat_map}
+use Rattle.std.specs.Prelude.{pos, ◌+ℤ◌}
 use Rattle.plum_base.specs.declared.entry.Entry.{Entry}
 use Rattle.plum_base.specs.declared.note.Note.{Note}
 use Rattle.plum_base.specs.declared.numbers.Tenths.{Tenths}
@@ -142,8 +143,9 @@ value_fits setup packets None table is = tt
 value_fits setup packets (Some t) table is =
     let few = table.few in
     let base = table.base in
-    let listed = is.2.listed in
-    omega (arith, ints, is.3, base.0, base.1)
+    let listed = is.1.1.listed in
+    let sum : t.0 ≡ setup.levels.base.0 +ℤ pos is.0 = ap (λ (t : Tenths). t.0) is.2 in
+    omega (arith, ints, sum, base.0, base.1)
 
 values_fit : (setup : Setup) (stations : ℕ) (parts : List (List Entry)) → IsLevelTable setup.levels
     → IsValidHistory setup stations (flat_map (λ part. part) parts)

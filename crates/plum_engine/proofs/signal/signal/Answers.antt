@@ -1,6 +1,6 @@
 use Rattle.std.proofs.Common.{◌≡◌, pos, ◌*ℤ◌, w32, w64, to_z, to_z-of_z, FitsSigned, arith, ◌∙◌, ap}
 use Rattle.std.proofs.lemmas.Int.{to_z_pos, ints}
-use Rattle.plum_engine.specs.Signal.{clamped}
+use Rattle.plum_filter.specs.Stage.{clamped}
 use Rattle.plum_engine.proofs.Signals.{int_shr_is, product_fits, quotient_fits}
 use Rattle.std.specs.Int.{int_shr}
 use Rattle.plum_engine.proofs.signal.signal.Goals as goal
