@@ -1,0 +1,13 @@
+pub mod Digits
+pub mod TheRecords
+pub mod FirstRecords
+pub mod Rows
+pub mod Each
+pub mod Positions
+pub mod MoreStations
+pub mod MoreTargets
+pub mod SameNumbers
+pub mod OneReading
+pub mod OneAnswer
+pub mod OneStation
+pub mod OneTarget
