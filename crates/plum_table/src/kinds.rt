@@ -1,0 +1,131 @@
+//! What stands at a key, by its kind.
+
+ghost use Rattle.std.specs.Prelude.{◌≡◌, ◌↔◌, ◌≤◌, ◌≤ℤ◌, length, option_map, IfOk, IsTrue};
+ghost use Rattle.std.specs.Result.{result_map_both};
+ghost use Rattle.toml.specs.Data.{as_integer, as_str, as_table, as_array, get_member};
+ghost use Rattle.toml.specs.View.{view, table_view, array_view};
+ghost use Rattle.plum_table.specs.Keys.{name_of};
+ghost use Rattle.plum_table.specs.Kinds.{value_at, integer_at, natural_at, array_at};
+ghost use Rattle.plum_table.specs.Values.{AreAll, values_as};
+
+use crate::fault::{SetupFault, SetupKey};
+use toml::value::Array;
+use toml::{Table, Value};
+
+/// What stands at a key of a table.
+fn find(table: &Table, key: SetupKey) -> Option<&Value>
+    ensures { option_map (λ v. view v.now) result
+        ≡ get_member (name_of key.field) (table_view table.now) }
+{
+    table.get(key.field.name())
+}
+
+/// The integer at a key, of a range.
+pub fn integer(table: &Table, key: SetupKey, low: i64, high: i64) -> Result<i64, SetupFault>
+    ensures value { result ≡ integer_at (table_view table.now) key low high }
+    ensures range { IfOk result (λ z. (low ≤ℤ z) × (z ≤ℤ high)) }
+{
+    let value = match find(table, key) {
+        Some(value) => value,
+        None => return Err(SetupFault::Missing(key)),
+    };
+    match value.as_integer() {
+        Some(z) if low <= z && z <= high => Ok(z),
+        Some(_) => Err(SetupFault::Range(key)),
+        None => Err(SetupFault::Kind(key)),
+    }
+}
+
+/// The text at a key.
+pub fn text(table: &Table, key: SetupKey) -> Result<&str, SetupFault>
+    ensures { result_map_both (λ s. s.now) (λ e. e) result
+        ≡ value_at as_str (table_view table.now) key }
+{
+    match find(table, key) {
+        Some(value) => value.as_str().ok_or(SetupFault::Kind(key)),
+        None => Err(SetupFault::Missing(key)),
+    }
+}
+
+/// The table at a key.
+pub fn table(table: &Table, key: SetupKey) -> Result<&Table, SetupFault>
+    ensures { result_map_both (λ t. table_view t.now) (λ e. e) result
+        ≡ value_at as_table (table_view table.now) key }
+{
+    match find(table, key) {
+        Some(value) => value.as_table().ok_or(SetupFault::Kind(key)),
+        None => Err(SetupFault::Missing(key)),
+    }
+}
+
+/// The number at a key, of a range without negative numbers.
+pub fn natural(table: &Table, key: SetupKey, low: u32, high: u32) -> Result<u32, SetupFault>
+    ensures value { result ≡ natural_at (table_view table.now) key low high }
+    ensures range { IfOk result (λ n. (low ≤ n) × (n ≤ high)) }
+{
+    Ok(integer(table, key, i64::from(low), i64::from(high))?.unsigned_abs() as u32)
+}
+
+/// The array at a key.
+fn array(table: &Table, key: SetupKey) -> Result<&Array, SetupFault>
+    ensures { result_map_both (λ a. array_view a.now) (λ e. e) result
+        ≡ value_at as_array (table_view table.now) key }
+{
+    match find(table, key) {
+        Some(value) => value.as_array().ok_or(SetupFault::Kind(key)),
+        None => Err(SetupFault::Missing(key)),
+    }
+}
+
+fn are_tables(items: &[Value]) -> bool
+    ensures { IsTrue result ↔ AreAll as_table items.now }
+{
+    items.iter().all(|item| item.is_table())
+}
+
+fn are_integers(items: &[Value]) -> bool
+    ensures { IsTrue result ↔ AreAll as_integer items.now }
+{
+    items.iter().all(|item| item.is_integer())
+}
+
+/// Whether there are one to `most` of them.
+fn is_count(count: usize, most: usize) -> bool
+    ensures { IsTrue result ↔ ((1 ≤ count) × (count ≤ most)) }
+{
+    1 <= count && count <= most
+}
+
+/// The array of tables at a key, of one to `most` of them.
+pub fn tables(table: &Table, key: SetupKey, most: usize) -> Result<&[Value], SetupFault>
+    ensures value { result_map_both (λ vs. values_as as_table vs.now) (λ e. e) result
+        ≡ array_at as_table (table_view table.now) key most }
+    ensures all { IfOk result (λ vs. AreAll as_table vs.now) }
+    ensures count { IfOk result (λ vs. (1 ≤ length vs.now) × (length vs.now ≤ most)) }
+{
+    let items = array(table, key)?.as_slice();
+    if !are_tables(items) {
+        return Err(SetupFault::Kind(key));
+    }
+    if !is_count(items.len(), most) {
+        return Err(SetupFault::Range(key));
+    }
+    Ok(items)
+}
+
+/// The array of integers at a key, of one to `most` of them.
+pub fn integers(table: &Table, key: SetupKey, most: usize) -> Result<&[Value], SetupFault>
+    ensures value { result_map_both (λ vs. values_as as_integer vs.now) (λ e. e) result
+        ≡ array_at as_integer (table_view table.now) key most }
+    ensures all { IfOk result (λ vs. AreAll as_integer vs.now) }
+    ensures count { IfOk result (λ vs. (1 ≤ length vs.now) × (length vs.now ≤ most)) }
+{
+    let items = array(table, key)?.as_slice();
+    if !are_integers(items) {
+        return Err(SetupFault::Kind(key));
+    }
+    if !is_count(items.len(), most) {
+        return Err(SetupFault::Range(key));
+    }
+    Ok(items)
+}
