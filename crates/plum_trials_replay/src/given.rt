@@ -32,29 +32,29 @@ pub fn plain_setup() -> Result<Setup, Fail>
         rules: Rules {
             raise: Class::C4,
             cancel: Class::C3,
-            calm: 2,
+            calm: 3,
         },
         lanes: 1,
-        queue: 16,
+        queue: 8,
     })
 }
 
 /// A station of code 1, and a target `t` in the area `a`, both at (0, 0).
 pub fn one_of_each(alloc: Global) -> Result<Sites, Fail> {
-    let at = Point { x: 0, y: 0 };
-    let factor = Tenths(0);
+    let origin = Point { x: 0, y: 0 };
+    let none = Tenths(0);
     let mut stations = Vec::new(alloc);
     stations.push(StationSite {
         code: 1,
-        at,
-        factor,
+        at: origin,
+        factor: none,
     })?;
     let mut targets = Vec::new(alloc);
     targets.push(TargetSite {
         name: Name::read(b"t").ok_or("a name")?,
         area: Name::read(b"a").ok_or("a name")?,
-        at,
-        factor,
+        at: origin,
+        factor: none,
     })?;
     Ok(Sites::new(alloc, stations, targets)?)
 }

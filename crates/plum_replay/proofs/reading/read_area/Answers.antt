@@ -1,13 +1,13 @@
-use Rattle.std.proofs.Common.{◌≡◌, arith, ◌++◌, ◌∷◌, [], Bool, true, false, cond, filter, length}
-use Rattle.std.proofs.Common.{take, ap, sym, ◌∙◌, refl, append-nil}
+use Rattle.std.proofs.Common.{◌≡◌, arith, Bool, true, false, length, take, ap, sym}
+use Rattle.std.proofs.Common.{◌∙◌, refl, append-nil}
 use Rattle.std.proofs.lemmas.List.{take_all, take_more}
-use Rattle.std.proofs.lemmas.List.Elements.{filter-append}
 use Rattle.std.proofs.lemmas.Option.{slice_get_read}
 use Rattle.std.proofs.lemmas.Slice.Zip.{all_zipped_more}
 use Rattle.std.specs.Prelude.{slice_get, Some}
 use Rattle.std.specs.Str.{bytes_eq}
 use Rattle.plum_base.specs.declared.sites.TargetSite.{TargetSite}
 use Rattle.plum_base.specs.Sites.{targets_of}
+use Rattle.plum_core.proofs.Lists.{filter_more}
 use Rattle.plum_replay.proofs.reading.read_area.Goals as goal
 use Rattle.plum_replay.proofs.reading.read_area.Goals.{then-eq+in_ok-push, else-eq}
 
@@ -25,20 +25,17 @@ loop-t-preserved c = λ entries stand.
     ap (λ ts. slice_get ts c.loop-t.t) (sym c.targets-target-items.ensures.value)
     ∙ slice_get_read targets (length targets) c.loop-t.t target refl c.loop-t-test.true
     c.target-item.is in
-    let after : (b : Bool) → test target ≡ b
-    → targets_of area (front ++ target ∷ []) ≡ targets_of area front ++ cond b (target ∷ []) [] =
-    λ b is. filter-append test front (target ∷ [])
-    ∙ ap (λ b. filter test front ++ cond b (target ∷ []) []) is in
     elim c.if-eq.branch [
       | then-eq+in_ok-push w ↦
-          let of_area = after true (sym c.eq.ensures ∙ w.if-eq.true) in
+          let of_area = filter_more test front target true (sym c.eq.ensures ∙ w.if-eq.true) in
           let predicted = rw here at (w.predict.ensures sites entries stand) in
           rw (one_more, ← c.target-item.is, of_area, w.answers-is, w.in_ok-push.ensures.ok)
           (all_zipped_more _ (targets_of area front) c.loop-t.answers target w.predict.result
           (c.loop-t.invariant entries stand) predicted)
       | else-eq w ↦
           let of_another =
-          after false (sym c.eq.ensures ∙ w.if-eq.false) ∙ append-nil (targets_of area front) in
+          filter_more test front target false (sym c.eq.ensures ∙ w.if-eq.false)
+          ∙ append-nil (targets_of area front) in
           rw (one_more, ← c.target-item.is, of_another, w.answers-is)
           (c.loop-t.invariant entries stand)
     ]

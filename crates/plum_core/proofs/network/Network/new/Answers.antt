@@ -1,7 +1,7 @@
-use Rattle.std.proofs.Common.{ℕ, ◌+◌, [], refl, ◌∙◌, ap}
-use Rattle.std.proofs.lemmas.List.{length_push}
+use Rattle.std.proofs.Common.{ℕ, [], refl}
 use Rattle.std.proofs.lemmas.List.Elements.{All-push}
 use Rattle.plum_core.specs.Station.{Stands}
+use Rattle.plum_core.proofs.Lists.{length_more}
 use Rattle.plum_core.proofs.Networks.{HasTaken-nil}
 use Rattle.plum_core.proofs.network.Network.new.Goals as goal
 
@@ -10,8 +10,7 @@ loop-preserved c =
     let before = c.loop.invariant in
     record {
       count =
-          rw c.in_ok-push.ensures.items
-          (length_push c.loop.stations.items _ ∙ ap (λ n. n + 1) before.count);
+          rw c.in_ok-push.ensures.items (length_more c.loop.stations.items _ _ before.count);
       each =
           rw c.in_ok-push.ensures.items
           (All-push (λ station. (s : ℕ) → Stands station c.args.setup.now s []) _ _ before.each
