@@ -347,37 +347,59 @@ fn squared_amplitude(sample: &Sample) -> u64 {
     squared_signal(sample.x) + squared_signal(sample.y) + squared_signal(sample.z)
 }
 
-/// The last minute of squared amplitudes since the last gap.
+/// The level of each sample of the last minute since the last gap, how many samples have each level,
+/// and the greatest level that enough of them have or exceed.
 struct Engine {
-    window: VecDeque<u64>,
+    levels: VecDeque<u8>,
+    counts: [usize; THRESHOLDS.len()],
+    top: usize,
+    reached: usize,
 }
 
 impl Engine {
     fn new() -> Engine {
         Engine {
-            window: VecDeque::with_capacity(WINDOW),
+            levels: VecDeque::with_capacity(WINDOW),
+            counts: [0; THRESHOLDS.len()],
+            top: 0,
+            reached: 0,
         }
     }
 
     fn absorb(&mut self, fresh: bool, wave: &[Sample]) -> Option<Tenths> {
         if fresh {
-            self.window.clear();
+            self.levels.clear();
+            self.counts = [0; THRESHOLDS.len()];
+            self.top = 0;
+            self.reached = 0;
         }
         for sample in wave {
-            if self.window.len() == WINDOW {
-                self.window.pop_front();
-            }
-            self.window.push_back(squared_amplitude(sample));
+            self.push(squared_amplitude(sample));
         }
-        let reached = THRESHOLDS.partition_point(|threshold| self.reaching(*threshold) >= ENOUGH);
-        let level = reached.checked_sub(1)?;
-        Some(Tenths(BASE + level as i16))
+        if self.levels.len() < ENOUGH {
+            return None;
+        }
+        Some(Tenths(BASE + self.top as i16))
     }
 
-    /// How many of the window are at least the threshold.
-    fn reaching(&self, threshold: u64) -> usize {
-        let reaches = |amplitude: &&u64| **amplitude >= threshold;
-        self.window.iter().filter(reaches).count()
+    fn push(&mut self, amplitude: u64) {
+        if self.levels.len() == WINDOW {
+            let left = self.levels.pop_front().map_or(0, usize::from);
+            self.counts[left] -= 1;
+            self.reached -= usize::from(left >= self.top);
+        }
+        let came = THRESHOLDS.partition_point(|threshold| *threshold <= amplitude) - 1;
+        self.levels.push_back(came as u8);
+        self.counts[came] += 1;
+        self.reached += usize::from(came >= self.top);
+        while self.reached - self.counts[self.top] >= ENOUGH {
+            self.reached -= self.counts[self.top];
+            self.top += 1;
+        }
+        while self.reached < ENOUGH && self.top > 0 {
+            self.top -= 1;
+            self.reached += self.counts[self.top];
+        }
     }
 }
 
