@@ -7,7 +7,7 @@ use Rattle.std.proofs.Math.Seq.{get_or-append_seam}
 use Rattle.std.proofs.lemmas.List.{get_or_append_left}
 use Rattle.plum_sites.specs.declared.fault.SiteFault.{SiteFault}
 use Rattle.plum_sites.specs.declared.fault.SiteFault.TheVariants as faults
-use Rattle.plum_sites.specs.Fields.{EachTo}
+use Rattle.std.specs.List.{AllZip}
 use Rattle.plum_sites.specs.Files.{StateSites, HasRowFault, HasFault}
 use Rattle.plum_sites.proofs.OneReading.{each_one}
 
@@ -77,8 +77,8 @@ fresh_before v xs x more distinct w =
 
 -- the site of a row, and those of the rows before
 each_split : {X Y : Type 0} (R : X → Y → Type 0) (before : List X) (x : X) (after : List X)
-    (ys : List Y) → EachTo R (before ++ x ∷ after) ys
-    → (us : List Y) × (v : Y) × (ws : List Y) × (ys ≡ us ++ v ∷ ws) × EachTo R before us × R x v
+    (ys : List Y) → AllZip R (before ++ x ∷ after) ys
+    → (us : List Y) × (v : Y) × (ws : List Y) × (ys ≡ us ++ v ∷ ws) × AllZip R before us × R x v
 each_split R [] x after [] each = absurd each
 each_split R [] x after (y ∷ ys) each = ([], y, ys, refl, tt, each.0)
 each_split R (b ∷ before) x after [] each = absurd each
@@ -137,8 +137,8 @@ no_earlier : {X : Type 0} (States : List (List ℕ) → X → Type 0) (AreLawful
     (IsFirstFault : List X → List (List ℕ) → ℕ → SiteFault → Type 0)
     → IsFormat States AreLawful IsFirstFault
     → (before : List (List (List ℕ))) (row : List (List ℕ)) (mid : List (List (List ℕ)))
-    → (sites whole : List X) (n : ℕ) (f : SiteFault) → EachTo States before sites
-    → EachTo States (before ++ row ∷ mid) whole → AreLawful whole → IsFirstFault sites row n f → ⊥
+    → (sites whole : List X) (n : ℕ) (f : SiteFault) → AllZip States before sites
+    → AllZip States (before ++ row ∷ mid) whole → AreLawful whole → IsFirstFault sites row n f → ⊥
 no_earlier States AreLawful IsFirstFault format before row mid sites whole n f stated all
     lawful at =
     let (us, v, ws, split, first, is) = each_split States before row mid whole all in
@@ -154,7 +154,7 @@ pub one_sites : {X : Type 0} (header : List (List ℕ)) (States : List (List ℕ
 one_sites header States AreLawful IsFirstFault format records xs ys a b =
     let both : header ∷ a.0 ≡ header ∷ b.0 = sym a.1 ∙ b.1 in
     let rows : a.0 ≡ b.0 = cc both in
-    each_one States format.site a.0 xs ys a.2 (subst (λ r. EachTo States r ys) (sym rows) b.2)
+    each_one States format.site a.0 xs ys a.2 (subst (λ r. AllZip States r ys) (sym rows) b.2)
 
 pub no_fault : {X : Type 0} (header : List (List ℕ)) (States : List (List ℕ) → X → Type 0)
     (AreLawful : List X → Type 0) (IsFirstFault : List X → List (List ℕ) → ℕ → SiteFault → Type 0)
@@ -168,7 +168,7 @@ no_fault header States AreLawful IsFirstFault format records xs f a (inr below) 
     let both : header ∷ a.0 ≡ header ∷ rows = sym a.1 ∙ is in
     let same : a.0 ≡ rows = cc both in
     no_earlier States AreLawful IsFirstFault format before row after sites xs (length before + 2) f
-    stated (subst (λ r. EachTo States r xs) (same ∙ split) a.2) a.3 wrong
+    stated (subst (λ r. AllZip States r xs) (same ∙ split) a.2) a.3 wrong
 
 one_row_fault : {X : Type 0} (States : List (List ℕ) → X → Type 0) (AreLawful : List X → Type 0)
     (IsFirstFault : List X → List (List ℕ) → ℕ → SiteFault → Type 0)
@@ -181,7 +181,7 @@ one_row_fault {X} States AreLawful IsFirstFault format rows f g a b =
     elim (places before before2 row row2 after after2 (sym split ∙ split2)) [
       | inl at ↦
           let same : sites ≡ sites2 = each_one States format.site before sites sites2 stated
-          (subst (λ r. EachTo States r sites2) (sym at.0) stated2) in
+          (subst (λ r. AllZip States r sites2) (sym at.0) stated2) in
           let n : length before2 + 2 ≡ length before + 2 = ap (λ r. length r + 2) (sym at.0) in
           let there = subst (λ (t : List X). IsFirstFault t row2 (length before2 + 2) g) (sym same)
           wrong2 in
@@ -192,11 +192,11 @@ one_row_fault {X} States AreLawful IsFirstFault format rows f g a b =
       | inr one ↦ elim one [
         | inl at ↦
             absurd (no_earlier States AreLawful IsFirstFault format before row at.0 sites sites2
-            (length before + 2) f stated (subst (λ r. EachTo States r sites2) at.1 stated2) lawful2
+            (length before + 2) f stated (subst (λ r. AllZip States r sites2) at.1 stated2) lawful2
             wrong)
         | inr at ↦
             absurd (no_earlier States AreLawful IsFirstFault format before2 row2 at.0 sites2 sites
-            (length before2 + 2) g stated2 (subst (λ r. EachTo States r sites) at.1 stated) lawful
+            (length before2 + 2) g stated2 (subst (λ r. AllZip States r sites) at.1 stated) lawful
             wrong2)
       ]
     ]

@@ -8,7 +8,8 @@ use Rattle.csv.specs.Machine.{Read, next_record}
 use Rattle.csv.specs.Reading.{Reached, AreRecords}
 use Rattle.csv.specs.declared.parser.Config.{Config}
 use Rattle.csv.specs.declared.parser.State.{State}
-use Rattle.plum_sites.specs.Fields.{IsShortNumeral, Spells, IsNumber, EachTo}
+use Rattle.plum_sites.specs.Fields.{IsShortNumeral, Spells, IsNumber}
+use Rattle.std.specs.List.{AllZip}
 
 ended : (cfg : Config) (s s2 : State) (xs ys : List ℕ) (p : Read) → s ≡ s2 → xs ≡ ys
     → next_record cfg s2 [] [] ys ≡ None → next_record cfg s [] [] xs ≡ Some p → ⊥
@@ -53,7 +54,7 @@ spells_one field n m a b = one_number field a.0 b.0 n m a.1 b.1 a.2 b.2
 
 pub each_one : {X Y : Type 0} (R : X → Y → Type 0)
     → ((x : X) (y z : Y) → R x y → R x z → y ≡ z)
-    → (xs : List X) (ys zs : List Y) → EachTo R xs ys → EachTo R xs zs → ys ≡ zs
+    → (xs : List X) (ys zs : List Y) → AllZip R xs ys → AllZip R xs zs → ys ≡ zs
 each_one R one [] [] [] a b = refl
 each_one R one [] [] (z ∷ zs) a b = absurd b
 each_one R one [] (y ∷ ys) zs a b = absurd a
@@ -64,7 +65,7 @@ each_one R one (x ∷ xs) (y ∷ ys) (z ∷ zs) a b =
     let rest : ys ≡ zs = each_one R one xs ys zs a.1 b.1 in
     cc
 
-pub each_number : (row : List (List ℕ)) (ns : List ℤ) → EachTo Spells row ns → All IsNumber row
+pub each_number : (row : List (List ℕ)) (ns : List ℤ) → AllZip Spells row ns → All IsNumber row
 each_number [] ns each k d l = absurd (omega arith)
 each_number (x ∷ row) [] each k d l = absurd each
 each_number (x ∷ row) (n ∷ ns) each zero d l = (n, each.0)

@@ -9,7 +9,8 @@ use Rattle.plum_base.specs.declared.sites.StationSite.{StationSite}
 use Rattle.plum_base.specs.Sites.{AreStations}
 use Rattle.plum_sites.specs.declared.fault.SiteFault.{SiteFault}
 use Rattle.plum_sites.specs.declared.fault.SiteFault.TheVariants as faults
-use Rattle.plum_sites.specs.Fields.{Spells, IsNumber, EachTo}
+use Rattle.plum_sites.specs.Fields.{Spells, IsNumber}
+use Rattle.std.specs.List.{AllZip}
 use Rattle.plum_sites.specs.Stations.{station_header, AreStationNumbers, StatesStation}
 use Rattle.plum_sites.specs.Stations.{IsFirstStationFault, StateStations, HaveStationFault}
 use Rattle.plum_sites.specs.Laws.{StationsAreTold}
@@ -41,7 +42,7 @@ one_station row s t a b =
 
 -- the numbers of a row that states a station are in their ranges
 in_ranges : (row : List (List ℕ)) (code x y factor : ℤ) (s : StationSite)
-    → EachTo Spells row (code ∷ x ∷ y ∷ factor ∷ []) → StatesStation row s
+    → AllZip Spells row (code ∷ x ∷ y ∷ factor ∷ []) → StatesStation row s
     → AreStationNumbers code x y factor
 in_ranges row code x y factor s spelled is =
     let all : pos s.code ∷ s.at.x ∷ s.at.y ∷ s.factor.0 ∷ [] ≡ code ∷ x ∷ y ∷ factor ∷ [] =
@@ -69,7 +70,7 @@ Fresh before row =
     (s : StationSite) × StatesStation row s × ¬ (Any (λ b. b.code ≡ s.code) before)
 
 numbers_of : (row : List (List ℕ)) (code x y factor : ℤ)
-    → EachTo Spells row (code ∷ x ∷ y ∷ factor ∷ []) → Numbers row
+    → AllZip Spells row (code ∷ x ∷ y ∷ factor ∷ []) → Numbers row
 numbers_of row code x y factor spelled = (
   each_length Spells row (code ∷ x ∷ y ∷ factor ∷ []) spelled,
   each_number row (code ∷ x ∷ y ∷ factor ∷ []) spelled,

@@ -13,7 +13,8 @@ use Rattle.plum_base.specs.declared.sites.TargetSite.{TargetSite}
 use Rattle.plum_base.specs.Sites.{AreTargets, areas_of, first_appearances}
 use Rattle.plum_sites.specs.declared.fault.SiteFault.{SiteFault}
 use Rattle.plum_sites.specs.declared.fault.SiteFault.TheVariants as faults
-use Rattle.plum_sites.specs.Fields.{Spells, IsNumber, EachTo}
+use Rattle.plum_sites.specs.Fields.{Spells, IsNumber}
+use Rattle.std.specs.List.{AllZip}
 use Rattle.plum_sites.specs.Targets.{target_header, AreTargetFields, StatesTarget}
 use Rattle.plum_sites.specs.Targets.{IsFirstTargetFault, StateTargets, HaveTargetFault}
 use Rattle.plum_sites.specs.Laws.{TargetsAreTold}
@@ -49,7 +50,7 @@ one_target row s t a b =
 
 -- the fields of a row that states a target are in their ranges
 in_ranges : (row : List (List ℕ)) (name area : List ℕ) (x y factor : ℤ) (t : TargetSite)
-    → take 2 row ≡ name ∷ area ∷ [] → EachTo Spells (drop 2 row) (x ∷ y ∷ factor ∷ [])
+    → take 2 row ≡ name ∷ area ∷ [] → AllZip Spells (drop 2 row) (x ∷ y ∷ factor ∷ [])
     → StatesTarget row t → AreTargetFields name area x y factor
 in_ranges row name area x y factor t named spelled is =
     let names : t.name ∷ t.area ∷ [] ≡ name ∷ area ∷ [] = sym is.names ∙ named in
@@ -80,7 +81,7 @@ Fresh before row =
     (t : TargetSite) × StatesTarget row t × ¬ (Any (λ b. b.name ≡ t.name) before)
 
 numbers_of : (row : List (List ℕ)) (name area : List ℕ) (x y factor : ℤ)
-    → take 2 row ≡ name ∷ area ∷ [] → EachTo Spells (drop 2 row) (x ∷ y ∷ factor ∷ [])
+    → take 2 row ≡ name ∷ area ∷ [] → AllZip Spells (drop 2 row) (x ∷ y ∷ factor ∷ [])
     → Numbers row
 numbers_of row name area x y factor named spelled =
     let two = ap length named in

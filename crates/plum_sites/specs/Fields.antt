@@ -1,5 +1,5 @@
 -- The form of a field (the project's own rule).
-use Rattle.std.specs.Prelude.{◌≡◌, ◌≤◌, ◌⊎◌, ℕ, ℤ, pos, neg_ℤ, List, [], ◌∷◌, length}
+use Rattle.std.specs.Prelude.{◌≡◌, ◌≤◌, ◌⊎◌, ℕ, ℤ, pos, neg_ℤ, List, ◌∷◌, length}
 use Rattle.std.specs.Str.Parse.{IsNumeral, digits_value}
 
 -- 1 to 9 decimal digits
@@ -15,10 +15,3 @@ Spells field n =
 
 abbrev pub IsNumber : List ℕ → Type 0
 IsNumber field = (n : ℤ) × Spells field n
-
--- the lists are as long, and R holds member by member
-abbrev pub EachTo : {X Y : Type 0} → (X → Y → Type 0) → List X → List Y → Type 0
-EachTo R [] [] = Unit {0}
-EachTo R [] (y ∷ ys) = ⊥
-EachTo R (x ∷ xs) [] = ⊥
-EachTo R (x ∷ xs) (y ∷ ys) = R x y × EachTo R xs ys

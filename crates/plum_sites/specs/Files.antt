@@ -4,7 +4,7 @@ use Rattle.plum_sites.specs.declared.fault.SiteFault.{SiteFault}
 use Rattle.plum_sites.specs.declared.fault.SiteFault.TheVariants as faults
 use Rattle.plum_sites.specs.declared.fault.SitesRefusal.{SitesRefusal}
 use Rattle.plum_sites.specs.declared.fault.SitesRefusal.TheVariants as refusals
-use Rattle.plum_sites.specs.Fields.{EachTo}
+use Rattle.std.specs.List.{AllZip}
 
 -- of a refusal for a fault, what holds of the fault; memory may be wanting at any time
 abbrev pub IfFault : SitesRefusal → (SiteFault → Type 0) → Type 0
@@ -17,14 +17,14 @@ abbrev pub HasRowFault : {X : Type 0} → (List (List ℕ) → X → Type 0) →
     → (List X → List (List ℕ) → ℕ → SiteFault → Type 0) → List (List (List ℕ)) → SiteFault → Type 0
 HasRowFault {X} States AreLawful IsFirstFault rows fault =
     (before : List (List (List ℕ))) × (row : List (List ℕ)) × (after : List (List (List ℕ)))
-    × (sites : List X) × (rows ≡ before ++ row ∷ after) × EachTo States before sites
+    × (sites : List X) × (rows ≡ before ++ row ∷ after) × AllZip States before sites
     × AreLawful sites × IsFirstFault sites row (length before + 2) fault
 
 -- the records are the header and rows that state these sites, one each, which are lawful
 abbrev pub StateSites : {X : Type 0} → List (List ℕ) → (List (List ℕ) → X → Type 0)
     → (List X → Type 0) → List (List (List ℕ)) → List X → Type 0
 StateSites header States AreLawful records sites =
-    (rows : List (List (List ℕ))) × (records ≡ header ∷ rows) × EachTo States rows sites
+    (rows : List (List (List ℕ))) × (records ≡ header ∷ rows) × AllZip States rows sites
     × AreLawful sites
 
 -- the records do not begin with the header, or they do and a row below it is at fault

@@ -6,7 +6,8 @@ use Rattle.plum_base.specs.Levels.{IsFactor}
 use Rattle.plum_base.specs.Sites.{IsPlace, MOST_STATIONS, AreStations}
 use Rattle.plum_sites.specs.declared.fault.SiteFault.{SiteFault}
 use Rattle.plum_sites.specs.declared.fault.SiteFault.TheVariants as faults
-use Rattle.plum_sites.specs.Fields.{Spells, IsNumber, EachTo}
+use Rattle.plum_sites.specs.Fields.{Spells, IsNumber}
+use Rattle.std.specs.List.{AllZip}
 use Rattle.plum_sites.specs.Records.{AreRecordsOf}
 use Rattle.plum_sites.specs.Files.{StateSites, HasFault}
 
@@ -24,7 +25,7 @@ AreStationNumbers code x y factor =
 
 -- a row states a station: its fields spell the station's numbers, each in its range
 pub record StatesStation (row : List (List ℕ)) (s : StationSite) : Type 0 where
-  pub numbers : EachTo Spells row (pos s.code ∷ s.at.x ∷ s.at.y ∷ s.factor.0 ∷ [])
+  pub numbers : AllZip Spells row (pos s.code ∷ s.at.x ∷ s.at.y ∷ s.factor.0 ∷ [])
   pub ranges : AreStationNumbers (pos s.code) s.at.x s.at.y s.factor.0
 
 -- what is wrong first with the n-th row, behind rows that state the stations before
@@ -35,7 +36,7 @@ IsFirstStationFault before row n (faults.Columns k) =
 IsFirstStationFault before row n (faults.Number k) =
     (k ≡ n) × (length row ≡ length station_header) × ¬ (All IsNumber row)
 IsFirstStationFault before row n (faults.Range k) =
-    (k ≡ n) × (code x y factor : ℤ) × EachTo Spells row (code ∷ x ∷ y ∷ factor ∷ [])
+    (k ≡ n) × (code x y factor : ℤ) × AllZip Spells row (code ∷ x ∷ y ∷ factor ∷ [])
     × ¬ (AreStationNumbers code x y factor)
 IsFirstStationFault before row n (faults.Twice k) =
     (k ≡ n) × (s : StationSite) × StatesStation row s × Any (λ b. b.code ≡ s.code) before

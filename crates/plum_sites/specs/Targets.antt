@@ -7,7 +7,8 @@ use Rattle.plum_base.specs.Name.{IsName}
 use Rattle.plum_base.specs.Sites.{IsPlace, MOST_TARGETS, MOST_AREAS, areas_of, AreTargets}
 use Rattle.plum_sites.specs.declared.fault.SiteFault.{SiteFault}
 use Rattle.plum_sites.specs.declared.fault.SiteFault.TheVariants as faults
-use Rattle.plum_sites.specs.Fields.{Spells, IsNumber, EachTo}
+use Rattle.plum_sites.specs.Fields.{Spells, IsNumber}
+use Rattle.std.specs.List.{AllZip}
 use Rattle.plum_sites.specs.Records.{AreRecordsOf}
 use Rattle.plum_sites.specs.Files.{StateSites, HasFault}
 
@@ -24,7 +25,7 @@ AreTargetFields name area x y factor =
 -- numbers, and each is in its range
 pub record StatesTarget (row : List (List ℕ)) (t : TargetSite) : Type 0 where
   pub names : take 2 row ≡ t.name ∷ t.area ∷ []
-  pub numbers : EachTo Spells (drop 2 row) (t.at.x ∷ t.at.y ∷ t.factor.0 ∷ [])
+  pub numbers : AllZip Spells (drop 2 row) (t.at.x ∷ t.at.y ∷ t.factor.0 ∷ [])
   pub ranges : AreTargetFields t.name t.area t.at.x t.at.y t.factor.0
 
 -- what is wrong first with the n-th row, behind rows that state the targets before
@@ -35,7 +36,7 @@ IsFirstTargetFault before row n (faults.Number k) =
     (k ≡ n) × (length row ≡ length target_header) × ¬ (All IsNumber (drop 2 row))
 IsFirstTargetFault before row n (faults.Range k) =
     (k ≡ n) × (name area : List ℕ) × (x y factor : ℤ) × (take 2 row ≡ name ∷ area ∷ [])
-    × EachTo Spells (drop 2 row) (x ∷ y ∷ factor ∷ []) × ¬ (AreTargetFields name area x y factor)
+    × AllZip Spells (drop 2 row) (x ∷ y ∷ factor ∷ []) × ¬ (AreTargetFields name area x y factor)
 IsFirstTargetFault before row n (faults.Twice k) =
     (k ≡ n) × (t : TargetSite) × StatesTarget row t × Any (λ b. b.name ≡ t.name) before
 IsFirstTargetFault before row n (faults.TooMany k) =

@@ -5,7 +5,8 @@ ghost use Rattle.std.specs.Prelude.{IsTrue, IfOk, IfErr, IfSome, IfNone};
 ghost use Rattle.csv.specs.Records.{fields_of};
 ghost use Rattle.plum_base.specs.declared.sites.StationSite.{StationSite};
 ghost use Rattle.plum_base.specs.Sites.{MOST_STATIONS as most, AreStations};
-ghost use Rattle.plum_sites.specs.Fields.{Spells, IsNumber, EachTo};
+ghost use Rattle.plum_sites.specs.Fields.{Spells, IsNumber};
+ghost use Rattle.std.specs.List.{AllZip};
 ghost use Rattle.plum_sites.specs.Files.{IfFault, HasRowFault};
 ghost use Rattle.plum_sites.specs.Stations.{station_header, AreStationNumbers, StatesStation};
 ghost use Rattle.plum_sites.specs.Stations.{IsFirstStationFault, StateStations};
@@ -60,7 +61,7 @@ fn station_fields(row: &ByteRecord) -> Option<StationFields<'_>>
 fn station_numbers(fields: &StationFields<'_>) -> Option<StationNumbers>
     ensures numbers { let row = fields.now.code.now ∷ fields.now.x.now ∷ fields.now.y.now
         ∷ fields.now.factor.now ∷ [] in
-        IfSome result (λ n. EachTo Spells row (n.code ∷ n.x ∷ n.y ∷ n.factor ∷ [])) }
+        IfSome result (λ n. AllZip Spells row (n.code ∷ n.x ∷ n.y ∷ n.factor ∷ [])) }
     ensures none { let row = fields.now.code.now ∷ fields.now.x.now ∷ fields.now.y.now
         ∷ fields.now.factor.now ∷ [] in
         IfNone result (¬ All IsNumber row) }
@@ -135,7 +136,7 @@ fn next_station(
 
 /// The stations of the rows below the header.
 fn stations_in(alloc: Global, rows: &[ByteRecord]) -> Result<Vec<StationSite>, SitesRefusal>
-    ensures stations { IfOk result (λ v. EachTo StatesStation (map fields_of rows.now) v.items
+    ensures stations { IfOk result (λ v. AllZip StatesStation (map fields_of rows.now) v.items
         × AreStations v.items) }
     ensures fault { IfErr result (λ e. IfFault e (HasRowFault StatesStation AreStations
         IsFirstStationFault (map fields_of rows.now))) }

@@ -6,7 +6,8 @@ ghost use Rattle.csv.specs.Records.{fields_of};
 ghost use Rattle.plum_base.specs.declared.sites.TargetSite.{TargetSite};
 ghost use Rattle.plum_base.specs.Sites.{MOST_TARGETS as most, MOST_AREAS as most_areas, areas_of};
 ghost use Rattle.plum_base.specs.Sites.{AreTargets};
-ghost use Rattle.plum_sites.specs.Fields.{Spells, IsNumber, EachTo};
+ghost use Rattle.plum_sites.specs.Fields.{Spells, IsNumber};
+ghost use Rattle.std.specs.List.{AllZip};
 ghost use Rattle.plum_sites.specs.Files.{IfFault, HasRowFault};
 ghost use Rattle.plum_sites.specs.Targets.{target_header, AreTargetFields, StatesTarget};
 ghost use Rattle.plum_sites.specs.Targets.{IsFirstTargetFault, StateTargets};
@@ -63,7 +64,7 @@ fn target_fields(row: &ByteRecord) -> Option<TargetFields<'_>>
 
 fn target_numbers(fields: &TargetFields<'_>) -> Option<TargetNumbers>
     ensures numbers { let row = fields.now.x.now ∷ fields.now.y.now ∷ fields.now.factor.now ∷ [] in
-        IfSome result (λ n. EachTo Spells row (n.x ∷ n.y ∷ n.factor ∷ [])) }
+        IfSome result (λ n. AllZip Spells row (n.x ∷ n.y ∷ n.factor ∷ [])) }
     ensures none { let row = fields.now.x.now ∷ fields.now.y.now ∷ fields.now.factor.now ∷ [] in
         IfNone result (¬ All IsNumber row) }
 {
@@ -172,7 +173,7 @@ fn next_target(
 
 /// The targets of the rows below the header.
 fn targets_in(alloc: Global, rows: &[ByteRecord]) -> Result<Vec<TargetSite>, SitesRefusal>
-    ensures targets { IfOk result (λ v. EachTo StatesTarget (map fields_of rows.now) v.items
+    ensures targets { IfOk result (λ v. AllZip StatesTarget (map fields_of rows.now) v.items
         × AreTargets v.items) }
     ensures fault { IfErr result (λ e. IfFault e (HasRowFault StatesTarget AreTargets
         IsFirstTargetFault (map fields_of rows.now))) }

@@ -1,13 +1,13 @@
 use Rattle.std.proofs.Common.{◌≡◌, length, map, take}
 use Rattle.csv.specs.Records.{fields_of}
 use Rattle.plum_base.specs.Sites.{AreStations}
-use Rattle.plum_sites.specs.Fields.{EachTo}
+use Rattle.std.specs.List.{AllZip}
 use Rattle.plum_sites.specs.Stations.{StatesStation}
 use Rattle.plum_sites.proofs.stations.stations_in.Given as goal
 
 abbrev pub invariant-loop-row : goal.invariant-loop-row
 invariant-loop-row l = record {
-  stated : EachTo StatesStation (map fields_of (take l.row-index l.rows)) l.stations.items;
+  stated : AllZip StatesStation (map fields_of (take l.row-index l.rows)) l.stations.items;
   lawful : AreStations l.stations.items;
   count : length l.stations.items ≡ l.row-index;
 }
