@@ -56,14 +56,17 @@ unseen v (x ∷ xs) y none =
     neither _ _ (λ t. none (0, x, omega arith, refl, (bytes_decides (v x) y).0 t))
     (unseen v xs y (λ w. none (suc w.0, w.1, omega (arith, w.2), w.3, w.4)))
 
-areas_more : (ts : List TargetSite) (i : ℕ) (t : TargetSite) → i < length ts → t ≡ get_or ts i t
-    → areas_of (take (i + 1) ts) ≡ areas_of (take i ts)
-    ++ cond (list_any (λ a. pointwise nat_eq a t.area) (map (λ u. u.area) (take i ts))) []
-    (t.area ∷ [])
-areas_more ts i t l at =
+areas_push : (ts : List TargetSite) (t : TargetSite)
+    → areas_of (ts ++ t ∷ []) ≡ areas_of ts
+    ++ cond (list_any (λ a. pointwise nat_eq a t.area) (map (λ u. u.area) ts)) [] (t.area ∷ [])
+areas_push ts t =
+    ap first_appearances (map-append (λ u. u.area) ts (t ∷ []))
+    ∙ appearances_push (map (λ u. u.area) ts) t.area
+
+one_target_more : (ts : List TargetSite) (i : ℕ) (t : TargetSite) → i < length ts
+    → t ≡ get_or ts i t → areas_of (take (i + 1) ts) ≡ areas_of (take i ts ++ t ∷ [])
+one_target_more ts i t l at =
     ap areas_of (take_more ts i t l ∙ ap (λ u. take i ts ++ u ∷ []) (sym at))
-    ∙ ap first_appearances (map-append (λ u. u.area) (take i ts) (t ∷ []))
-    ∙ appearances_push (map (λ u. u.area) (take i ts)) t.area
 
 -- a target of an area that stands before
 pub areas_same : (ts : List TargetSite) (i : ℕ) (t : TargetSite) → i < length ts → t ≡ get_or ts i t
@@ -71,7 +74,7 @@ pub areas_same : (ts : List TargetSite) (i : ℕ) (t : TargetSite) → i < lengt
     → length (areas_of (take (i + 1) ts)) ≡ length (areas_of (take i ts))
 areas_same ts i t l at w =
     let s = seen (λ u. u.area) (take i ts) t.area w.0 w.1 w.2 w.3 w.4 in
-    ap length (areas_more ts i t l at)
+    ap length (one_target_more ts i t l at ∙ areas_push (take i ts) t)
     ∙ ap (λ b. length (areas_of (take i ts) ++ cond b [] (t.area ∷ []))) s
     ∙ ap length (append-nil (areas_of (take i ts)))
 
@@ -81,7 +84,7 @@ pub areas_new : (ts : List TargetSite) (i : ℕ) (t : TargetSite) → i < length
     → length (areas_of (take (i + 1) ts)) ≡ length (areas_of (take i ts)) + 1
 areas_new ts i t l at none =
     let s = unseen (λ u. u.area) (take i ts) t.area none in
-    ap length (areas_more ts i t l at)
+    ap length (one_target_more ts i t l at ∙ areas_push (take i ts) t)
     ∙ ap (λ b. length (areas_of (take i ts) ++ cond b [] (t.area ∷ []))) s
     ∙ length_push (areas_of (take i ts)) t.area
 
@@ -127,27 +130,34 @@ any_same xs y = (
       (w.0, w.1, w.2, w.3, (bytes_decides w.1 y).1 w.4),
 )
 
--- a target whose area is among those before
-pub areas_unchanged : (ts : List TargetSite) (i : ℕ) (t : TargetSite) → i < length ts
-    → t ≡ get_or ts i t
-    → Any (λ a. a ≡ t.area) (areas_of (take i ts))
-    → areas_of (take (i + 1) ts) ≡ areas_of (take i ts)
-areas_unchanged ts i t l at among =
-    let s = sym (any_appears (map (λ u. u.area) (take i ts)) t.area)
-    ∙ (any_same (areas_of (take i ts)) t.area).1 among in
-    areas_more ts i t l at ∙ ap (λ b. areas_of (take i ts) ++ cond b [] (t.area ∷ [])) s
-    ∙ append-nil (areas_of (take i ts))
+-- a target whose area is there
+pub same_areas : (ts : List TargetSite) (t : TargetSite) → Any (λ a. a ≡ t.area) (areas_of ts)
+    → areas_of (ts ++ t ∷ []) ≡ areas_of ts
+same_areas ts t among =
+    let s = sym (any_appears (map (λ u. u.area) ts) t.area)
+    ∙ (any_same (areas_of ts) t.area).1 among in
+    areas_push ts t ∙ ap (λ b. areas_of ts ++ cond b [] (t.area ∷ [])) s
+    ∙ append-nil (areas_of ts)
 
 -- a target of another area
+pub more_areas : (ts : List TargetSite) (t : TargetSite) → ¬ Any (λ a. a ≡ t.area) (areas_of ts)
+    → areas_of (ts ++ t ∷ []) ≡ areas_of ts ++ t.area ∷ []
+more_areas ts t among =
+    let none : list_any (λ a. pointwise nat_eq a t.area) (areas_of ts) ≡ false =
+    false_from_ne_true _ (λ s. among ((any_same (areas_of ts) t.area).0 s)) in
+    let s = sym (any_appears (map (λ u. u.area) ts) t.area) ∙ none in
+    areas_push ts t ∙ ap (λ b. areas_of ts ++ cond b [] (t.area ∷ [])) s
+
+-- the same, where the target is the next of a list
+pub areas_unchanged : (ts : List TargetSite) (i : ℕ) (t : TargetSite) → i < length ts
+    → t ≡ get_or ts i t → Any (λ a. a ≡ t.area) (areas_of (take i ts))
+    → areas_of (take (i + 1) ts) ≡ areas_of (take i ts)
+areas_unchanged ts i t l at among = one_target_more ts i t l at ∙ same_areas (take i ts) t among
+
 pub areas_pushed : (ts : List TargetSite) (i : ℕ) (t : TargetSite) → i < length ts
     → t ≡ get_or ts i t → ¬ Any (λ a. a ≡ t.area) (areas_of (take i ts))
     → areas_of (take (i + 1) ts) ≡ areas_of (take i ts) ++ t.area ∷ []
-areas_pushed ts i t l at among =
-    let none : list_any (λ a. pointwise nat_eq a t.area) (areas_of (take i ts))
-    ≡ false = false_from_ne_true _ (λ s. among
-    ((any_same (areas_of (take i ts)) t.area).0 s)) in
-    let s = sym (any_appears (map (λ u. u.area) (take i ts)) t.area) ∙ none in
-    areas_more ts i t l at ∙ ap (λ b. areas_of (take i ts) ++ cond b [] (t.area ∷ [])) s
+areas_pushed ts i t l at among = one_target_more ts i t l at ∙ more_areas (take i ts) t among
 
 -- each target's area is among all
 pub area_among : (ts : List TargetSite) (i : ℕ) (t : TargetSite) → i < length ts → t ≡ get_or ts i t

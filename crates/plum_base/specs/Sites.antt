@@ -1,10 +1,12 @@
 -- What a list of stations and a list of targets must keep (the project's own limits).
-use Rattle.std.specs.Prelude.{◌≡◌, ◌≢◌, ℕ, ℤ, not, ◌≤◌, pos, ◌≤ℤ◌, List, [], ◌∷◌, Some, length, map}
-use Rattle.std.specs.Prelude.{filter, slice_get, nat_eq, All, AllPairs, IsSomeAnd}
+use Rattle.std.specs.Prelude.{◌≡◌, ◌≢◌, ℕ, ℤ, not, ◌<◌, ◌≤◌, pos, ◌≤ℤ◌, List, [], ◌∷◌, ◌++◌, length}
+use Rattle.std.specs.Prelude.{map, filter, slice_get, slice_index_or, nat_eq, All, AllPairs, Any}
+use Rattle.std.specs.Prelude.{Option, Some, None, IsSomeAnd}
 use Rattle.std.specs.Cmp.Lexicographic.{pointwise}
 use Rattle.std.specs.Str.{bytes_eq}
 use Rattle.plum_base.specs.declared.numbers.AreaNo.{AreaNo}
 use Rattle.plum_base.specs.declared.numbers.Point.{Point}
+use Rattle.plum_base.specs.declared.numbers.StationNo.{StationNo}
 use Rattle.plum_base.specs.declared.sites.StationSite.{StationSite}
 use Rattle.plum_base.specs.declared.sites.TargetSite.{TargetSite}
 use Rattle.plum_base.specs.Levels.{IsFactor}
@@ -45,6 +47,17 @@ first_appearances (x ∷ xs) = x ∷ filter (λ y. not (pointwise nat_eq x y)) (
 abbrev pub areas_of : List TargetSite → List (List ℕ)
 areas_of targets = first_appearances (map (λ t. t.area) targets)
 
+-- A target of an area that is there adds none.
+abbrev pub KnownAreasStay : Type 0
+KnownAreasStay = (targets : List TargetSite) (t : TargetSite)
+    → Any (λ a. a ≡ t.area) (areas_of targets) → areas_of (targets ++ t ∷ []) ≡ areas_of targets
+
+-- A target of another area adds it at the end.
+abbrev pub NewAreasComeLast : Type 0
+NewAreasComeLast = (targets : List TargetSite) (t : TargetSite)
+    → ¬ Any (λ a. a ≡ t.area) (areas_of targets)
+    → areas_of (targets ++ t ∷ []) ≡ areas_of targets ++ t.area ∷ []
+
 -- the targets of an area, in file order
 abbrev pub targets_of : List ℕ → List TargetSite → List TargetSite
 targets_of area targets = filter (λ t. bytes_eq t.area area) targets
@@ -73,6 +86,17 @@ HasCode stations n code = IsSomeAnd (slice_get stations n) (λ s. s.code ≡ cod
 -- No station has this code.
 abbrev pub HasNoCode : List StationSite → ℕ → Type 0
 HasNoCode stations code = All (λ s. s.code ≢ code) stations
+
+-- what is found at a code: the number of its station, or none where no station has it
+abbrev pub IsFoundAt : List StationSite → ℕ → Option StationNo → Type 0
+IsFoundAt stations code None = HasNoCode stations code
+IsFoundAt stations code (Some n) = HasCode stations n.0 code
+
+-- the table has at each code, of sixteen bits, what is found there
+abbrev pub AreByCode : List StationSite → List (Option StationNo) → Type 0
+AreByCode stations table =
+    (length table ≡ 65536) × ((code : ℕ) → code < 65536
+    → IsFoundAt stations code (slice_index_or table code None))
 
 -- the numbers, target by target, are those of the targets' areas
 abbrev pub AreNumbered : List TargetSite → List AreaNo → Type 0

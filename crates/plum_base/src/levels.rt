@@ -1,8 +1,8 @@
 //! The threshold table that turns squared amplitudes into tenths of intensity.
 
 ghost use Rattle.std.specs.Prelude.{◌≡◌, ◌-◌, ◌<◌, ◌≤◌, length, slice_index, IfOk, IfErr, IfSome};
-ghost use Rattle.std.specs.Prelude.{IfNone, IsTrue, ◌↔◌};
-ghost use Rattle.plum_base.specs.Levels.{IsFactor, RisesUpTo, IsWithinUpTo, greatest_amplitude};
+ghost use Rattle.std.specs.Prelude.{IfNone};
+ghost use Rattle.plum_base.specs.Levels.{RisesUpTo, IsWithinUpTo, greatest_amplitude};
 ghost use Rattle.plum_base.specs.Levels.{IsLevelTable, IsFirstLevelFault};
 
 use crate::numbers::Tenths;
@@ -75,13 +75,6 @@ fn first_above(thresholds: &[u64]) -> Option<usize>
     None
 }
 
-/// Whether a site factor or a base is in its range of -100 to 100 tenths.
-pub(crate) fn is_factor(t: Tenths) -> bool
-    ensures { IsTrue result ↔ IsFactor t }
-{
-    -100 <= t.0 && t.0 <= 100
-}
-
 impl Levels {
     /// The table of these thresholds, where level i stands for base + i tenths.
     pub fn new(thresholds: ArrayVec<u64, 128>, base: Tenths) -> Result<Levels, LevelFault>
@@ -101,7 +94,7 @@ impl Levels {
         if let Some(i) = first_above(thresholds.as_slice()) {
             return Err(LevelFault::Above(i as u8));
         }
-        if !is_factor(base) {
+        if !base.is_factor() {
             return Err(LevelFault::Base);
         }
         Ok(Levels { thresholds, base })

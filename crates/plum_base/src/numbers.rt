@@ -1,5 +1,9 @@
 //! Numbers that name or measure something.
 
+ghost use Rattle.std.specs.Prelude.{◌↔◌, IsTrue};
+ghost use Rattle.plum_base.specs.Levels.{IsFactor};
+ghost use Rattle.plum_base.specs.Sites.{IsPlace};
+
 /// A station, by its position in the station file, from 0.
 #[derive(Clone, Copy, Debug, PartialEq, Eq)]
 pub struct StationNo(pub u16);
@@ -20,6 +24,15 @@ pub struct LaneNo(pub u16);
 #[derive(Clone, Copy, Debug, PartialEq, Eq, PartialOrd, Ord)]
 pub struct Tenths(pub i16);
 
+impl Tenths {
+    /// Whether a site factor or the base of a threshold table may be this: -100 to 100 tenths.
+    pub fn is_factor(self) -> bool
+        ensures { IsTrue result ↔ IsFactor self }
+    {
+        -100 <= self.0 && self.0 <= 100
+    }
+}
+
 /// What orders a station's packets: by boot, and then by number.
 #[derive(Clone, Copy, Debug, PartialEq, Eq, PartialOrd, Ord)]
 pub struct Key {
@@ -27,9 +40,21 @@ pub struct Key {
     pub number: u32,
 }
 
+/// The last metre of the grid, each way.
+pub const GRID_END: i32 = 4_194_303;
+
 /// A place on the flat grid, in metres.
 #[derive(Clone, Copy, Debug, PartialEq, Eq)]
 pub struct Point {
     pub x: i32,
     pub y: i32,
+}
+
+impl Point {
+    /// Whether the place is on the grid: from 0 to `GRID_END`, each way.
+    pub fn is_on_grid(self) -> bool
+        ensures { IsTrue result ↔ IsPlace self }
+    {
+        (0..=GRID_END).contains(&self.x) && (0..=GRID_END).contains(&self.y)
+    }
 }

@@ -7,7 +7,7 @@ ghost use Rattle.plum_base.specs.Levels.{IsFactor};
 ghost use Rattle.plum_base.specs.Sites.{IsPlace, areas_of, AreNumbered, AreStations, AreTargets};
 ghost use Rattle.plum_base.specs.Sites.{AreLawful, HasCode, HasNoCode};
 
-use crate::levels::is_factor;
+use crate::codes::stations_by_code;
 use crate::memory::NoMemory;
 use crate::name::Name;
 use crate::numbers::{AreaNo, Point, StationNo, TargetNo, Tenths};
@@ -38,15 +38,14 @@ pub const MOST_TARGETS: usize = 8192;
 
 pub const MOST_AREAS: usize = 64;
 
-/// The last metre of the grid, each way.
-pub const GRID_END: i32 = 4_194_303;
-
 /// At most 4,096 stations of distinct codes and 8,192 targets of distinct names in 64 areas, all on
 /// the grid. Contracts see both lists.
 #[derive(Debug, Drop)]
 pub struct Sites {
     stations: Vec<StationSite>,
     targets: Vec<TargetSite>,
+    /// The station of each code, at the code.
+    by_code: Vec<Option<StationNo>>,
     /// The names of the areas, each at its number.
     areas: Vec<Name>,
     /// The area of each target.
@@ -56,6 +55,7 @@ pub struct Sites {
 impl Model for Sites {
     ghost use Rattle.std.specs.Prelude.{◌≡◌};
     ghost use Rattle.plum_base.specs.Sites.{SitesView, areas_of, AreNumbered, AreLawful};
+    ghost use Rattle.plum_base.specs.Sites.{AreByCode};
 
     ghost Value = { SitesView };
 
@@ -63,7 +63,8 @@ impl Model for Sites {
 
     ghost invariant = { λ s. AreLawful s.stations.items s.targets.items
         × (s.areas.items ≡ areas_of s.targets.items)
-        × AreNumbered s.targets.items s.numbers.items };
+        × AreNumbered s.targets.items s.numbers.items
+        × AreByCode s.stations.items s.by_code.items };
 }
 
 impl Sites {
@@ -80,11 +81,13 @@ impl Sites {
               targets.items;
         }) }
     {
+        let by_code = stations_by_code(alloc, stations.as_slice())?;
         let areas = areas_in(alloc, targets.as_slice())?;
         let numbers = numbers_in(alloc, targets.as_slice(), areas.as_slice())?;
         Ok(Sites {
             stations,
             targets,
+            by_code,
             areas,
             numbers,
         })
@@ -105,8 +108,7 @@ impl Sites {
         ensures found { IfSome result (λ n. HasCode self.now.stations n.0 code) }
         ensures none { IfNone result (HasNoCode self.now.stations code) }
     {
-        let position = self.stations.iter().position(|s| s.code == code)?;
-        Some(StationNo(position as u16))
+        self.by_code[usize::from(code)]
     }
 
     pub fn stations(&self) -> &[StationSite]
@@ -220,20 +222,13 @@ fn copy_targets(alloc: Global, targets: &[TargetSite]) -> Result<Vec<TargetSite>
     Ok(copies)
 }
 
-/// Whether a place is on the grid.
-fn is_place(p: Point) -> bool
-    ensures { IsTrue result ↔ IsPlace p }
-{
-    (0..=GRID_END).contains(&p.x) && (0..=GRID_END).contains(&p.y)
-}
-
 /// Whether each station stands on the grid and has a factor in its range.
 fn are_stations_in_range(stations: &[StationSite]) -> bool
     ensures { IsTrue result ↔ All (λ s. IsPlace s.at × IsFactor s.factor) stations.now }
 {
     stations
         .iter()
-        .all(|s| is_place(s.at) && is_factor(s.factor))
+        .all(|s| s.at.is_on_grid() && s.factor.is_factor())
 }
 
 /// Whether each target stands on the grid and has a factor in its range.
@@ -242,7 +237,7 @@ fn are_targets_in_range(targets: &[TargetSite]) -> bool
 {
     targets
         .iter()
-        .all(|t| is_place(t.at) && is_factor(t.factor))
+        .all(|t| t.at.is_on_grid() && t.factor.is_factor())
 }
 
 fn has_code(stations: &[StationSite], code: u16) -> bool
