@@ -1,7 +1,7 @@
--- Counts of faults.
+-- Counts of faults and of calls.
 use Rattle.std.specs.Prelude.{◌≡◌, ℕ, ◌+◌, ◌-◌, ◌^◌, min, max}
 
--- the count after one more fault: at 2^64 - 1, where it ends, it stands still
+-- the count after one more: at 2^64 - 1, where it ends, it stands still
 abbrev pub one_more : ℕ → ℕ
 one_more count = max count (min (count + 1) (2 ^ 64 - 1))
 

@@ -23,6 +23,10 @@ counts_alone read_faults write_faults = record {
   write_faults = write_faults;
 }
 
+-- Where the host tells what is left of this input, this holds of the bytes.
+abbrev pub WhereTold : HostView → In → (List ℕ → Type 0) → Type 0
+WhereTold host file P = (bytes : List ℕ) → host.left file ≡ Some bytes → P bytes
+
 -- The first n bytes of the buffer are the next n of the input, and nothing else is taken.
 abbrev pub Takes : Option (List ℕ) → Option (List ℕ) → ℕ → List ℕ → Type 0
 Takes None after n buffer = ⊤

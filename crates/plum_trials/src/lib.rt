@@ -8,6 +8,8 @@
 #[cfg(test)]
 mod files;
 #[cfg(test)]
+mod loads;
+#[cfg(test)]
 mod packets;
 #[cfg(test)]
 mod ranges;

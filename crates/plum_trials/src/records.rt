@@ -7,20 +7,19 @@ use std::alloc::Global;
 use std::process::Abort;
 use std::test::Fail;
 
-/// A sound host with this capture, its other inputs empty.
-fn host_of(alloc: Global, capture: Bytes) -> Result<MemHost, NoMemory> {
-    let files = MemFiles {
+/// This capture, and no other input.
+pub fn files_of(alloc: Global, capture: Bytes) -> Result<MemFiles, NoMemory> {
+    Ok(MemFiles {
         setup: Bytes::new(alloc)?,
         stations: Bytes::new(alloc)?,
         targets: Bytes::new(alloc)?,
         capture,
         journal: Bytes::new(alloc)?,
         output: Bytes::new(alloc)?,
-    };
-    MemHost::sound(alloc, files)
+    })
 }
 
-fn four_marks(alloc: Global) -> Result<Bytes, NoMemory> {
+pub fn four_marks(alloc: Global) -> Result<Bytes, NoMemory> {
     let mut capture = Bytes::new(alloc)?;
     for _ in 0..4 {
         capture.extend(&[0, 2, b'M', b'K'])?;
@@ -42,7 +41,7 @@ fn expect_three<H: Host>(rt: &impl Abort, records: &mut Records, host: &mut H) {
 #[test]
 fn file_and_record_limits(rt: HostRuntime) -> Result<(), Fail> {
     let alloc = rt.alloc();
-    let mut host = host_of(alloc, four_marks(alloc)?)?;
+    let mut host = MemHost::sound(alloc, files_of(alloc, four_marks(alloc)?)?)?;
     let mut records = Records::new(alloc, 3)?;
     expect_three(&rt, &mut records, &mut host);
     Ok(())
