@@ -1,9 +1,11 @@
 -- How many samples have a level or a higher one.
 use Rattle.std.proofs.Common.{◌≡◌, ℕ, ◌+◌, ◌-◌, ◌<◌, ◌≤◌, List, length, get_or, drop, set, sum, sym}
 use Rattle.std.proofs.Common.{◌∙◌, ap, arith, length-drop, leb, leb-true, leb-false, cond, inl, inr}
+use Rattle.std.proofs.Common.{Bool, true, false, refl}
 use Rattle.std.proofs.lemmas.Bool.{cases_Bool}
 use Rattle.std.proofs.lemmas.List.{drop-set-lt, drop-set-add, drop-drop, get_or-drop}
 use Rattle.std.proofs.lemmas.List.Sums.{sum_by-set, sum_by-drop_more, sum_by-take-drop}
+use Rattle.std.specs.Int.{from_bool}
 use Rattle.plum_level.specs.Tallies.{from_level, one_more, one_less}
 
 -- the level itself, and those above it
@@ -69,3 +71,12 @@ from_level-one_less counts k l below there = elim (cases_Bool (leb k l)) [
         (get_or counts l 0 - 1) (leb-false k l past),
   ))
 ]
+
+-- A comparison as a number: one where it holds, and none else.
+pub from_bool-cond : (b : Bool) → from_bool b ≡ cond b 1 0
+from_bool-cond true = refl
+from_bool-cond false = refl
+
+pub from_bool-le : (b : Bool) → from_bool b ≤ 1
+from_bool-le true = omega arith
+from_bool-le false = omega arith

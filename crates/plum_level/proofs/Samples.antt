@@ -1,15 +1,15 @@
 -- The level of a sample, and how many samples have a level or a higher one.
-use Rattle.std.proofs.Common.{◌≡◌, ℕ, ◌+◌, ◌-◌, ◌<◌, ◌≤◌, Bool, true, false, List, [], ◌∷◌, length}
-use Rattle.std.proofs.Common.{get_or, map, leb, leb-true, leb-false, le-leb, count_by, cond, refl}
+use Rattle.std.proofs.Common.{◌≡◌, ℕ, ◌+◌, ◌-◌, ◌<◌, ◌≤◌, Bool, false, List, [], ◌∷◌, length}
+use Rattle.std.proofs.Common.{get_or, map, leb, leb-true, leb-false, count_by, cond, refl}
 use Rattle.std.proofs.Common.{sym, ◌∙◌, ap, arith, inl, inr}
 use Rattle.std.proofs.lemmas.Bool.{cases_Bool}
 use Rattle.std.proofs.lemmas.Bool.Decides.{nat_tests}
 use Rattle.std.proofs.lemmas.List.{get_or_default}
 use Rattle.std.proofs.lemmas.List.Sorted.{IsNonDecreasingBy-from_all_adjacent}
-use Rattle.std.proofs.lemmas.List.Sums.{sum_by-cons, prefix_len_is, prefix_len_passes}
+use Rattle.std.proofs.lemmas.List.Sums.{sum_by-cons, prefix_len_passes}
 use Rattle.std.proofs.lemmas.List.Sums.{prefix_len_stops, prefix_len-le-length}
 use Rattle.std.specs.List.{prefix_len}
-use Rattle.std.specs.List.Sorted.{IsNonDecreasing, IsPartitionPoint}
+use Rattle.std.specs.List.Sorted.{IsNonDecreasing}
 use Rattle.plum_base.specs.Levels.{StartsAtZero, RisesUpTo}
 use Rattle.plum_level.specs.Level.{sample_level}
 
@@ -28,13 +28,19 @@ IsNonDecreasing-from_rises ts rises =
 abbrev pub reached_by : List ℕ → ℕ → ℕ
 reached_by ts a = prefix_len (λ t. leb t a) ts
 
--- It is where a search by halves ends.
-pub reached_by-from_point : (ts : List ℕ) (a n : ℕ) → n ≤ length ts
-    → IsPartitionPoint (λ t. leb t a ≡ true) (λ t. leb t a ≡ false) ts n → reached_by ts a ≡ n
-reached_by-from_point ts a n bound point =
-    prefix_len_is (λ t. leb t a) ts n 0 bound
-    (λ k below. point.0 k 0 (omega arith) below)
-    (λ below. point.1 n 0 (omega arith) below)
+-- In thresholds that do not fall, a sample reaches these, and no other.
+pub reached_by-up_to : (ts : List ℕ) → IsNonDecreasing ts → (a k : ℕ) → k < length ts
+    → leb (k + 1) (reached_by ts a) ≡ leb (get_or ts k 0) a
+reached_by-up_to ts order a k below = elim (cases_Bool (leb (k + 1) (reached_by ts a))) [
+  | inl within ↦
+      let inside = leb-true (k + 1) (reached_by ts a) within in
+      within ∙ sym (prefix_len_passes (λ t. leb t a) ts k 0 (omega arith))
+  | inr past ↦
+      let beyond = leb-false (k + 1) (reached_by ts a) past in
+      let short = leb-false _ a (prefix_len_stops (λ t. leb t a) ts 0 (omega arith)) in
+      let above = order (reached_by ts a) k 0 (omega arith) below in
+      grind (arith, nat_tests)
+]
 
 module _ (ts : List ℕ) (starts : StartsAtZero ts) (a : ℕ) where
   -- Each sample reaches the first threshold.
@@ -55,18 +61,12 @@ module _ (ts : List ℕ) (starts : StartsAtZero ts) (a : ℕ) where
   -- It reaches the thresholds up to its level, and no other.
   pub sample_level-reaches : RisesUpTo ts (length ts) → (i : ℕ) → i < length ts
       → leb i (sample_level ts a) ≡ leb (get_or ts i 0) a
-  sample_level-reaches rises i below = elim (cases_Bool (leb (i + 1) (reached_by ts a))) [
-    | inl within ↦
-        let passed = leb-true (i + 1) (reached_by ts a) within in
-        let passes = prefix_len_passes (λ t. leb t a) ts i 0 (omega arith) in
-        le-leb i (sample_level ts a) (omega arith) ∙ sym passes
-    | inr past ↦
-        let beyond = leb-false (i + 1) (reached_by ts a) past in
-        let short = leb-false _ a (prefix_len_stops (λ t. leb t a) ts 0 (omega arith)) in
-        let order = IsNonDecreasing-from_rises ts rises (reached_by ts a) i 0 (omega arith) below in
-        let above : sample_level ts a < i = omega (arith, reached_by-some) in
-        grind (arith, nat_tests)
-  ]
+  sample_level-reaches rises i below =
+      let some = reached_by-some in
+      let order = IsNonDecreasing-from_rises ts rises in
+      let shifted : leb i (sample_level ts a) ≡ leb (i + 1) (reached_by ts a) =
+      grind (arith, nat_tests) in
+      shifted ∙ reached_by-up_to ts order a i below
 
 -- A count is one of what was mapped.
 pub count_by-map : (p q : ℕ → Bool) (f : ℕ → ℕ) → ((x : ℕ) → p (f x) ≡ q x) → (xs : List ℕ)

@@ -1,3 +1,4 @@
 pub mod Level
 pub mod Tallies
 pub mod Window
+pub mod Thresholds

@@ -7,6 +7,7 @@
 
 mod laws;
 mod tally;
+mod thresholds;
 mod window;
 
 pub use laws::one_level;

@@ -11,7 +11,8 @@ pub(crate) const MOST_LEVELS: usize = 128;
 /// How many samples must reach a threshold: 0.3 seconds.
 pub(crate) const ENOUGH: usize = 30;
 
-/// The number of samples of each level, a top level, and how many have it or a higher one.
+/// The number of samples of each level, a top level, and how many have it or a higher one. These
+/// are counted without a branch: which way it goes, a processor could only guess.
 #[derive(Drop)]
 pub(crate) struct Tally {
     counts: [usize; MOST_LEVELS],
@@ -68,9 +69,7 @@ impl Tally {
     {
         let level = level as usize;
         self.counts[level] += 1;
-        if level >= self.top {
-            self.reached += 1;
-        }
+        self.reached += usize::from(level >= self.top);
     }
 
     /// Counts a sample no longer.
@@ -83,9 +82,7 @@ impl Tally {
     {
         let level = level as usize;
         self.counts[level] -= 1;
-        if level >= self.top {
-            self.reached -= 1;
-        }
+        self.reached -= usize::from(level >= self.top);
     }
 
     /// Moves the top to the greatest level that enough samples have or exceed, or to 0.

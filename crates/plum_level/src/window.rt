@@ -2,12 +2,12 @@
 
 ghost use Rattle.std.specs.Prelude.{◌≡◌, ℕ, ◌<◌, List, [], ◌∷◌, ◌++◌, IfOk};
 ghost use Rattle.plum_base.specs.Levels.{LevelsView};
-ghost use Rattle.plum_level.specs.Level.{last_minute, sample_level, IsLevelOfRun};
+ghost use Rattle.plum_level.specs.Level.{last_minute, IsLevelOfRun};
 ghost use Rattle.plum_level.specs.Tallies.{MOST_LEVELS};
 ghost use Rattle.plum_level.specs.Window.{StandsFor};
 
-use crate::tally::{ENOUGH, MOST_LEVELS, Tally};
-use arrayvec::ArrayVec;
+use crate::tally::{ENOUGH, Tally};
+use crate::thresholds::Thresholds;
 use circular_buffer::HeapCircularBuffer;
 use plum_base::{Levels, NoMemory};
 use std::alloc::Global;
@@ -20,7 +20,7 @@ const WINDOW: usize = 6_000;
 /// level of the run moves with each sample, so that `level` only looks it up.
 #[derive(Drop)]
 pub struct Window {
-    thresholds: ArrayVec<u64, MOST_LEVELS>,
+    thresholds: Thresholds,
     ring: HeapCircularBuffer<u8>,
     tally: Tally,
 }
@@ -32,10 +32,10 @@ impl Model for Window {
 
     ghost Value = { WindowView };
 
-    ghost view = { λ w. record { thresholds = w.thresholds.items; levels = w.ring.items } };
+    ghost view = { λ w. record { thresholds = w.thresholds; levels = w.ring.items } };
 
     ghost invariant = { λ w. (w.ring.capacity ≡ WINDOW)
-        × IsWindow (record { thresholds = w.thresholds.items; levels = w.ring.items }) w.tally };
+        × IsWindow (record { thresholds = w.thresholds; levels = w.ring.items }) w.tally };
 }
 
 impl Window {
@@ -43,12 +43,8 @@ impl Window {
     pub fn new(alloc: Global, levels: &Levels) -> Result<Window, NoMemory>
         ensures stands { IfOk result (λ w. StandsFor w levels.now []) }
     {
-        let mut thresholds = ArrayVec::new();
-        for threshold in levels.thresholds() {
-            thresholds.push(*threshold);
-        }
         Ok(Window {
-            thresholds,
+            thresholds: Thresholds::new(levels),
             ring: HeapCircularBuffer::with_capacity(alloc, WINDOW)?,
             tally: Tally::new(),
         })
@@ -61,7 +57,7 @@ impl Window {
             → StandsFor self.old table amplitudes
             → StandsFor self.new table (amplitudes ++ amp ∷ []) }
     {
-        let level = self.sample_level(amp);
+        let level = self.thresholds.level_of(amp);
         self.take_in(level);
     }
 
@@ -86,18 +82,6 @@ impl Window {
     {
         self.ring.clear();
         self.tally.clear();
-    }
-
-    /// The level of a sample of this squared amplitude.
-    fn sample_level(&self, amp: u64) -> u8
-        ensures level { result ≡ sample_level self.now.thresholds amp }
-        ensures listed { result < MOST_LEVELS }
-    {
-        let reached = self
-            .thresholds
-            .as_slice()
-            .partition_point(|threshold| *threshold <= amp);
-        (reached - 1) as u8
     }
 
     /// Adds a sample of this level.

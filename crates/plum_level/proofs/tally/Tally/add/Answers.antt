@@ -1,16 +1,18 @@
-use Rattle.std.proofs.Common.{◌+◌, ◌<◌, length, get_or, ◌∙◌, arith}
+use Rattle.std.proofs.Common.{◌+◌, ◌<◌, length, get_or, leb, ◌∙◌, arith}
 use Rattle.std.proofs.lemmas.List.{length-set}
-use Rattle.plum_level.proofs.Counting.{from_level-falls, from_level-set}
+use Rattle.plum_level.proofs.Counting.{from_level-falls, from_level-one_more, from_bool-cond}
+use Rattle.plum_level.proofs.Counting.{from_bool-le}
 use Rattle.plum_level.proofs.tally.Tally.add.Goals as goal
 
-pub overflow_add-self-then-level-self : goal.overflow_add-self-then-level-self
-overflow_add-self-then-level-self c =
+pub overflow_add-self-2 : goal.overflow_add-self-2
+overflow_add-self-2 c =
     let before = c.args.self.now in
     let most = from_level-falls before.counts 0 before.top (omega arith) in
-    omega (arith, c.requires.tally.reached, most)
+    let one = from_bool-le (leb before.top c.args.level) in
+    omega (arith, c.requires.tally.reached, c.requires.few, c.from.ensures, most, one)
 
-pub returns-then-level-self-clause-tally : goal.returns-then-level-self-clause-tally
-returns-then-level-self-clause-tally c =
+pub returns-clause-tally : goal.returns-clause-tally
+returns-clause-tally c =
     let before = c.args.self.now in
     let more = get_or before.counts c.args.level 0 + 1 in
     let within : c.args.level < length before.counts = omega (arith, c.requires.tally.places) in
@@ -20,6 +22,8 @@ returns-then-level-self-clause-tally c =
       reached = omega (
         arith,
         c.requires.tally.reached,
-        from_level-set before.counts before.top c.args.level more c.if-level-self.true within,
+        c.from.ensures,
+        from_bool-cond (leb before.top c.args.level),
+        from_level-one_more before.counts before.top c.args.level within,
       );
     }

@@ -1,22 +1,22 @@
-use Rattle.std.proofs.Common.{◌-◌, ◌<◌, length, get_or, ◌∙◌, arith}
+use Rattle.std.proofs.Common.{◌-◌, ◌<◌, length, get_or, leb, ◌∙◌, arith}
 use Rattle.std.proofs.lemmas.List.{length-set}
-use Rattle.plum_level.proofs.Counting.{from_level-falls, from_level-step, from_level-set}
+use Rattle.plum_level.proofs.Counting.{from_level-one_less, from_bool-cond}
 use Rattle.plum_level.proofs.tally.Tally.remove.Goals as goal
 
-pub overflow_sub-self-then-level-self : goal.overflow_sub-self-then-level-self
-overflow_sub-self-then-level-self c =
+pub overflow_sub-self-2 : goal.overflow_sub-self-2
+overflow_sub-self-2 c =
     let before = c.args.self.now in
     let within : c.args.level < length before.counts = omega (arith, c.requires.tally.places) in
     omega (
       arith,
       c.requires.tally.reached,
-      c.requires.there,
-      from_level-falls before.counts before.top c.args.level c.if-level-self.true,
-      from_level-step before.counts c.args.level within,
+      c.from.ensures,
+      from_bool-cond (leb before.top c.args.level),
+      from_level-one_less before.counts before.top c.args.level within c.requires.there,
     )
 
-pub returns-then-level-self-clause-tally : goal.returns-then-level-self-clause-tally
-returns-then-level-self-clause-tally c =
+pub returns-clause-tally : goal.returns-clause-tally
+returns-clause-tally c =
     let before = c.args.self.now in
     let less = get_or before.counts c.args.level 0 - 1 in
     let within : c.args.level < length before.counts = omega (arith, c.requires.tally.places) in
@@ -26,7 +26,8 @@ returns-then-level-self-clause-tally c =
       reached = omega (
         arith,
         c.requires.tally.reached,
-        c.requires.there,
-        from_level-set before.counts before.top c.args.level less c.if-level-self.true within,
+        c.from.ensures,
+        from_bool-cond (leb before.top c.args.level),
+        from_level-one_less before.counts before.top c.args.level within c.requires.there,
       );
     }
