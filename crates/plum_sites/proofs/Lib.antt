@@ -8,6 +8,8 @@ pub mod MoreStations
 pub mod MoreTargets
 pub mod SameNumbers
 pub mod OneReading
+pub mod Known
+pub mod SomeAnswer
 pub mod OneAnswer
 pub mod OneStation
 pub mod OneTarget

@@ -1,5 +1,5 @@
--- A file of sites has one answer, where a row states one site and has one fault, and where no row
--- of a lawful list has a fault.
+-- A file of sites has one answer, where a row states one site and has one fault, where no row of a
+-- lawful list has a fault, and where a row behind a lawful list goes on with it or has one.
 use Rattle.std.proofs.Common.{◌≡◌, ◌≢◌, ◌⊎◌, ◌<◌, ◌+◌, ℕ, List, [], ◌∷◌, ◌++◌, length, Any}
 use Rattle.std.proofs.Common.{AllPairs, refl, sym, ap, ◌∙◌, subst, inl, inr, arith}
 use Rattle.std.proofs.Common.{length-append}
@@ -8,8 +8,10 @@ use Rattle.std.proofs.lemmas.List.{get_or_append_left}
 use Rattle.plum_sites.specs.declared.fault.SiteFault.{SiteFault}
 use Rattle.plum_sites.specs.declared.fault.SiteFault.TheVariants as faults
 use Rattle.std.specs.List.{AllZip}
-use Rattle.plum_sites.specs.Files.{StateSites, HasRowFault, HasFault}
-use Rattle.plum_sites.proofs.OneReading.{each_one}
+use Rattle.plum_sites.specs.Files.{StateSites, HasRowFault, HasFault, AreSitesOf, IsFaultOf}
+use Rattle.plum_sites.specs.Laws.{HasOneAnswer}
+use Rattle.plum_sites.proofs.OneReading.{one_file, each_one}
+use Rattle.plum_sites.proofs.SomeAnswer.{IsDecided, some_answer}
 
 -- the fault of a row that keeps each rule above it, and not its own
 abbrev pub Breaks : Type 0 → Type 0 → Type 0 → Type 0 → ℕ → SiteFault → Type 0
@@ -121,8 +123,8 @@ places (a ∷ before) (b ∷ before2) x y after after2 is =
     let rest : before ++ x ∷ after ≡ before2 ++ y ∷ after2 = cc both in
     further a b before before2 x y same (places before before2 x y after after2 rest)
 
--- What a format must keep: a row states one site and has one fault, and none where its site goes on
--- in a lawful list.
+-- What a format must keep: a row states one site and has one fault, none where its site goes on in
+-- a lawful list, and one where it does not.
 pub record IsFormat {X : Type 0} (States : List (List ℕ) → X → Type 0) (AreLawful : List X → Type 0)
     (IsFirstFault : List X → List (List ℕ) → ℕ → SiteFault → Type 0) : Type 0 where
   pub site : (row : List (List ℕ)) (s t : X) → States row s → States row t → s ≡ t
@@ -131,6 +133,9 @@ pub record IsFormat {X : Type 0} (States : List (List ℕ) → X → Type 0) (Ar
   pub none : (sites : List X) (s : X) (more : List X) (row : List (List ℕ)) (n : ℕ)
       (f : SiteFault) → States row s → AreLawful (sites ++ s ∷ more)
       → IsFirstFault sites row n f → ⊥
+  pub empty : AreLawful []
+  pub next : (sites : List X) (row : List (List ℕ)) (n : ℕ) → AreLawful sites
+      → IsDecided States AreLawful IsFirstFault sites row n
 
 -- no row of those that state a lawful list is at fault
 no_earlier : {X : Type 0} (States : List (List ℕ) → X → Type 0) (AreLawful : List X → Type 0)
@@ -146,7 +151,7 @@ no_earlier States AreLawful IsFirstFault format before row mid sites whole n f s
     format.none sites v ws row n f is
     (subst AreLawful (split ∙ ap (λ t. t ++ v ∷ ws) same) lawful) at
 
-pub one_sites : {X : Type 0} (header : List (List ℕ)) (States : List (List ℕ) → X → Type 0)
+one_sites : {X : Type 0} (header : List (List ℕ)) (States : List (List ℕ) → X → Type 0)
     (AreLawful : List X → Type 0) (IsFirstFault : List X → List (List ℕ) → ℕ → SiteFault → Type 0)
     → IsFormat States AreLawful IsFirstFault → (records : List (List (List ℕ))) (xs ys : List X)
     → StateSites header States AreLawful records xs → StateSites header States AreLawful records ys
@@ -156,7 +161,7 @@ one_sites header States AreLawful IsFirstFault format records xs ys a b =
     let rows : a.0 ≡ b.0 = cc both in
     each_one States format.site a.0 xs ys a.2 (subst (λ r. AllZip States r ys) (sym rows) b.2)
 
-pub no_fault : {X : Type 0} (header : List (List ℕ)) (States : List (List ℕ) → X → Type 0)
+no_fault : {X : Type 0} (header : List (List ℕ)) (States : List (List ℕ) → X → Type 0)
     (AreLawful : List X → Type 0) (IsFirstFault : List X → List (List ℕ) → ℕ → SiteFault → Type 0)
     → IsFormat States AreLawful IsFirstFault → (records : List (List (List ℕ))) (xs : List X)
     (f : SiteFault) → StateSites header States AreLawful records xs
@@ -201,7 +206,7 @@ one_row_fault {X} States AreLawful IsFirstFault format rows f g a b =
       ]
     ]
 
-pub one_fault : {X : Type 0} (header : List (List ℕ)) (States : List (List ℕ) → X → Type 0)
+one_fault : {X : Type 0} (header : List (List ℕ)) (States : List (List ℕ) → X → Type 0)
     (AreLawful : List X → Type 0) (IsFirstFault : List X → List (List ℕ) → ℕ → SiteFault → Type 0)
     → IsFormat States AreLawful IsFirstFault → (records : List (List (List ℕ))) (f g : SiteFault)
     → HasFault header States AreLawful IsFirstFault records f
@@ -216,3 +221,21 @@ one_fault header States AreLawful IsFirstFault format records f g (inr a) (inr b
     let rows : a.0 ≡ b.0 = cc both in
     one_row_fault States AreLawful IsFirstFault format a.0 f g a.2
     (subst (λ r. HasRowFault States AreLawful IsFirstFault r g) (sym rows) b.2)
+
+-- a file of such a format has one answer
+pub one_answer : {X : Type 0} (header : List (List ℕ)) (States : List (List ℕ) → X → Type 0)
+    (AreLawful : List X → Type 0) (IsFirstFault : List X → List (List ℕ) → ℕ → SiteFault → Type 0)
+    → IsFormat States AreLawful IsFirstFault → (bytes : List ℕ)
+    → HasOneAnswer (AreSitesOf header States AreLawful bytes)
+    (IsFaultOf header States AreLawful IsFirstFault bytes)
+one_answer header States AreLawful IsFirstFault format bytes = record {
+  some = some_answer header States AreLawful IsFirstFault format.empty format.next bytes;
+  sites = λ xs ys a b. one_sites header States AreLawful IsFirstFault format a.0 xs ys a.2
+      (subst (λ r. StateSites header States AreLawful r ys) (one_file bytes b.0 a.0 b.1 a.1) b.2);
+  fault = λ f g a b. one_fault header States AreLawful IsFirstFault format a.0 f g a.2
+      (subst (λ r. HasFault header States AreLawful IsFirstFault r g)
+      (one_file bytes b.0 a.0 b.1 a.1) b.2);
+  either = λ xs f a b. no_fault header States AreLawful IsFirstFault format a.0 xs f a.2
+      (subst (λ r. HasFault header States AreLawful IsFirstFault r f)
+      (one_file bytes b.0 a.0 b.1 a.1) b.2);
+}

@@ -5,17 +5,19 @@ use Rattle.std.proofs.Common.{arith}
 use Rattle.std.specs.Char.{digit_value}
 use Rattle.std.specs.Str.Parse.{digits_value}
 use Rattle.csv.specs.Machine.{Read, next_record}
-use Rattle.csv.specs.Reading.{Reached, AreRecords}
+use Rattle.csv.specs.Reading.{Reached, AreRecords, default_config, strip_bom}
 use Rattle.csv.specs.declared.parser.Config.{Config}
 use Rattle.csv.specs.declared.parser.State.{State}
+use Rattle.csv.specs.declared.parser.State.TheVariants as st
 use Rattle.plum_sites.specs.Fields.{IsShortNumeral, Spells, IsNumber}
 use Rattle.std.specs.List.{AllZip}
+use Rattle.plum_sites.specs.Records.{AreRecordsOf}
 
 ended : (cfg : Config) (s s2 : State) (xs ys : List ℕ) (p : Read) → s ≡ s2 → xs ≡ ys
     → next_record cfg s2 [] [] ys ≡ None → next_record cfg s [] [] xs ≡ Some p → ⊥
 ended cfg s s2 xs ys p same_state same_text none some = cc
 
-pub one_list : (cfg : Config) (s : State) (xs : List ℕ) (a b : List (List (List ℕ)))
+one_list : (cfg : Config) (s : State) (xs : List ℕ) (a b : List (List (List ℕ)))
     → AreRecords cfg s xs a → AreRecords cfg s xs b → a ≡ b
 unfolding Reached
 one_list cfg s xs [] [] x y = refl
@@ -28,6 +30,10 @@ one_list cfg s xs (q ∷ qs) (r ∷ rs) x y =
     let rest = one_list cfg x.2.0.1 x.2.0.2 qs rs (x.0, x.1, x.2.3, x.3) other in
     let first : q ≡ r = x.2.2 ∙ ap (λ (p : Read). p.0) same ∙ sym y.2.2 in
     cc (first, rest)
+
+pub one_file : (bytes : List ℕ) (a b : List (List (List ℕ))) → AreRecordsOf bytes a
+    → AreRecordsOf bytes b → a ≡ b
+one_file bytes a b x y = one_list default_config st.StartRecord (strip_bom bytes) a b x y
 
 no_sign : (ds es : List ℕ) → IsShortNumeral ds → ds ≡ 45 ∷ es → ⊥
 no_sign [] es short is = cc

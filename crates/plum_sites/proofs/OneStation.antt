@@ -1,24 +1,29 @@
 -- A station file has one answer.
 use Rattle.std.proofs.Common.{◌≡◌, ℕ, ℤ, pos, List, [], ◌∷◌, ◌++◌, length, All, Any, ap}
-use Rattle.std.proofs.Common.{◌∙◌, subst, arith, length-append}
-use Rattle.csv.specs.Reading.{default_config, strip_bom}
-use Rattle.csv.specs.declared.parser.State.TheVariants as st
+use Rattle.std.proofs.Common.{◌∙◌, subst, arith, length-append, refl, sym, inl, inr}
+use Rattle.std.proofs.lemmas.Bool.{cases_eq, cases_lt}
+use Rattle.std.proofs.lemmas.List.Elements.{All-nil}
 use Rattle.plum_base.specs.declared.numbers.Point.{Point}
 use Rattle.plum_base.specs.declared.numbers.Tenths.{Tenths}
 use Rattle.plum_base.specs.declared.sites.StationSite.{StationSite}
-use Rattle.plum_base.specs.Sites.{AreStations}
+use Rattle.plum_base.specs.Levels.{IsFactor}
+use Rattle.plum_base.specs.Sites.{IsPlace, AreStations}
 use Rattle.plum_sites.specs.declared.fault.SiteFault.{SiteFault}
 use Rattle.plum_sites.specs.declared.fault.SiteFault.TheVariants as faults
 use Rattle.plum_sites.specs.Fields.{Spells, IsNumber}
 use Rattle.std.specs.List.{AllZip}
 use Rattle.plum_sites.specs.Stations.{station_header, AreStationNumbers, StatesStation}
-use Rattle.plum_sites.specs.Stations.{IsFirstStationFault, StateStations, HaveStationFault}
+use Rattle.plum_sites.specs.Stations.{IsFirstStationFault}
 use Rattle.plum_sites.specs.Laws.{StationsAreTold}
+use Rattle.plum_sites.proofs.Known.{Known, known_three, known_within, known_place, known_factor}
+use Rattle.plum_sites.proofs.Known.{known_all, known_any, known_number, natural_of, spelled}
+use Rattle.plum_sites.proofs.Known.{four_numbers}
+use Rattle.plum_sites.proofs.MoreStations.{stations_more}
 use Rattle.plum_sites.proofs.SameNumbers.{same_point, same_tenths}
+use Rattle.plum_sites.proofs.SomeAnswer.{IsDecided}
 use Rattle.plum_sites.proofs.Each.{each_length}
-use Rattle.plum_sites.proofs.OneReading.{one_list, spells_one, each_one, each_number}
-use Rattle.plum_sites.proofs.OneAnswer.{Breaks, breaks_one, fresh_before, IsFormat, one_sites}
-use Rattle.plum_sites.proofs.OneAnswer.{no_fault, one_fault}
+use Rattle.plum_sites.proofs.OneReading.{spells_one, each_one, each_number}
+use Rattle.plum_sites.proofs.OneAnswer.{Breaks, breaks_one, fresh_before, IsFormat, one_answer}
 
 abbrev station : ℕ → Point → Tenths → StationSite
 station code at factor = record { code = code; at = at; factor = factor }
@@ -117,6 +122,70 @@ none_goes_on sites s more row n (faults.TooMany k) is lawful at =
     let few = lawful.few in
     let full = at.4 in absurd (omega arith)
 
+known_ranges : (code x y factor : ℤ) → Known (AreStationNumbers code x y factor)
+known_ranges code x y factor =
+    known_three _ _ _ (known_within (pos 0) (pos 65535) code) (known_place x y)
+    (known_factor factor)
+
+abbrev Decided : List StationSite → List (List ℕ) → ℕ → Type 0
+Decided before row n = IsDecided StatesStation AreStations IsFirstStationFault before row n
+
+-- a row that states a station
+by_station : (before : List StationSite) (row : List (List ℕ)) (n : ℕ) (s : StationSite)
+    → AreStations before → StatesStation row s → Decided before row n
+by_station before row n s lawful is =
+    elim (known_any (λ b. b.code ≡ s.code) (λ b. cases_eq b.code s.code) before) [
+      | inl twice ↦ inr (faults.Twice n, (refl, s, is, twice))
+      | inr fresh ↦ elim (cases_lt (length before) 4096) [
+        | inl room ↦
+            inl (s, is, stations_more before s lawful fresh room is.ranges.1 is.ranges.2)
+        | inr full ↦ inr (faults.TooMany n, (refl, s, is, fresh, full))
+      ]
+    ]
+
+-- a row of four numbers
+by_numbers : (before : List StationSite) (row : List (List ℕ)) (n : ℕ) (code x y factor : ℤ)
+    → AreStations before → AllZip Spells row (code ∷ x ∷ y ∷ factor ∷ []) → Decided before row n
+by_numbers before row n code x y factor lawful spells =
+    elim (known_ranges code x y factor) [
+      | inl within ↦
+          let natural = natural_of code within.0.0 in
+          by_station before row n
+          (station natural.0 (record { x = x; y = y }) (record { 0 = factor })) lawful
+          (record {
+            numbers = subst (λ (c : ℤ). AllZip Spells row (c ∷ x ∷ y ∷ factor ∷ []))
+                (sym natural.1) spells;
+            ranges = subst (λ (c : ℤ). AreStationNumbers c x y factor) (sym natural.1) within;
+          })
+      | inr other ↦ inr (faults.Range n, (refl, code, x, y, factor, spells, other))
+    ]
+
+-- a row of four fields that are numbers
+by_row : (before : List StationSite) (row : List (List ℕ)) (n : ℕ) (ns : List ℤ)
+    → AreStations before → length row ≡ 4 → AllZip Spells row ns → Decided before row n
+by_row before row n ns lawful four spells =
+    let same = each_length Spells row ns spells in
+    let is = four_numbers row ns (omega (arith, four, same)) spells in
+    by_numbers before row n is.0 is.1 is.2 is.3 lawful is.4
+
+decided : (before : List StationSite) (row : List (List ℕ)) (n : ℕ) → AreStations before
+    → Decided before row n
+decided before row n lawful =
+    elim (cases_eq (length row) 4) [
+      | inl four ↦ elim (known_all IsNumber known_number row) [
+        | inl all ↦ let ns = spelled row all in by_row before row n ns.0 lawful four ns.1
+        | inr other ↦ inr (faults.Number n, (refl, four, other))
+      ]
+      | inr other ↦ inr (faults.Columns n, (refl, other))
+    ]
+
+no_stations : AreStations []
+no_stations = record {
+  few = omega arith;
+  in_range = All-nil (λ s. IsPlace s.at × IsFactor s.factor);
+  codes = λ k j d l m. absurd (omega arith);
+}
+
 station_format : IsFormat StatesStation AreStations IsFirstStationFault
 station_format = record {
   site = one_station;
@@ -124,17 +193,10 @@ station_format = record {
       (Fresh sites row) (λ numbers. numbers.0) (numbers_stated row) (λ fresh. (fresh.0, fresh.1)) n
       f g (breaks sites row n f a) (breaks sites row n g b);
   none = none_goes_on;
+  empty = no_stations;
+  next = decided;
 }
 
 pub stations_are_told : StationsAreTold
-stations_are_told bytes = record {
-  sites = λ xs ys a b. one_sites station_header StatesStation AreStations IsFirstStationFault
-      station_format a.0 xs ys a.2 (subst (λ r. StateStations r ys)
-      (one_list default_config st.StartRecord (strip_bom bytes) b.0 a.0 b.1 a.1) b.2);
-  fault = λ f g a b. one_fault station_header StatesStation AreStations IsFirstStationFault
-      station_format a.0 f g a.2 (subst (λ r. HaveStationFault r g)
-      (one_list default_config st.StartRecord (strip_bom bytes) b.0 a.0 b.1 a.1) b.2);
-  either = λ xs f a b. no_fault station_header StatesStation AreStations IsFirstStationFault
-      station_format a.0 xs f a.2 (subst (λ r. HaveStationFault r f)
-      (one_list default_config st.StartRecord (strip_bom bytes) b.0 a.0 b.1 a.1) b.2);
-}
+stations_are_told bytes =
+    one_answer station_header StatesStation AreStations IsFirstStationFault station_format bytes

@@ -4,25 +4,29 @@ use Rattle.std.proofs.Common.{take, drop, filter, nat_eq, All, Any, sym, ap, ◌
 use Rattle.std.proofs.Common.{refl, arith, append_assoc, length-append, length-drop}
 use Rattle.std.specs.Cmp.Lexicographic.{pointwise}
 use Rattle.std.proofs.lemmas.List.{length-take, map-append}
-use Rattle.std.proofs.lemmas.List.Elements.{filter-append}
-use Rattle.csv.specs.Reading.{default_config, strip_bom}
-use Rattle.csv.specs.declared.parser.State.TheVariants as st
+use Rattle.std.proofs.lemmas.Bool.{cases_eq, cases_lt}
+use Rattle.std.proofs.lemmas.List.Elements.{filter-append, All-nil}
 use Rattle.plum_base.specs.declared.numbers.Point.{Point}
 use Rattle.plum_base.specs.declared.numbers.Tenths.{Tenths}
 use Rattle.plum_base.specs.declared.sites.TargetSite.{TargetSite}
-use Rattle.plum_base.specs.Sites.{AreTargets, areas_of, first_appearances}
+use Rattle.plum_base.specs.Levels.{IsFactor}
+use Rattle.plum_base.specs.Sites.{IsPlace, AreTargets, areas_of, first_appearances}
 use Rattle.plum_sites.specs.declared.fault.SiteFault.{SiteFault}
 use Rattle.plum_sites.specs.declared.fault.SiteFault.TheVariants as faults
 use Rattle.plum_sites.specs.Fields.{Spells, IsNumber}
 use Rattle.std.specs.List.{AllZip}
 use Rattle.plum_sites.specs.Targets.{target_header, AreTargetFields, StatesTarget}
-use Rattle.plum_sites.specs.Targets.{IsFirstTargetFault, StateTargets, HaveTargetFault}
+use Rattle.plum_sites.specs.Targets.{IsFirstTargetFault}
 use Rattle.plum_sites.specs.Laws.{TargetsAreTold}
+use Rattle.plum_sites.proofs.Known.{Known, known_four, known_name, known_place, known_factor}
+use Rattle.plum_sites.proofs.Known.{known_all, known_any, known_bytes, known_number, spelled}
+use Rattle.plum_sites.proofs.Known.{three_numbers}
+use Rattle.plum_sites.proofs.MoreTargets.{targets_more}
 use Rattle.plum_sites.proofs.SameNumbers.{same_point, same_tenths}
+use Rattle.plum_sites.proofs.SomeAnswer.{IsDecided}
 use Rattle.plum_sites.proofs.Each.{each_length}
-use Rattle.plum_sites.proofs.OneReading.{one_list, spells_one, each_one, each_number}
-use Rattle.plum_sites.proofs.OneAnswer.{Breaks, breaks_one, fresh_before, IsFormat, one_sites}
-use Rattle.plum_sites.proofs.OneAnswer.{no_fault, one_fault}
+use Rattle.plum_sites.proofs.OneReading.{spells_one, each_one, each_number}
+use Rattle.plum_sites.proofs.OneAnswer.{Breaks, breaks_one, fresh_before, IsFormat, one_answer}
 
 abbrev target : List ℕ → List ℕ → Point → Tenths → TargetSite
 target name area at factor = record { name = name; area = area; at = at; factor = factor }
@@ -160,6 +164,87 @@ none_goes_on sites s more row n (faults.Twice k) is lawful at =
 none_goes_on sites s more row n (faults.TooMany k) is lawful at =
     too_many sites s at.1 more (one_target row s at.1 is at.2) lawful at.4
 
+known_fields : (name area : List ℕ) (x y factor : ℤ)
+    → Known (AreTargetFields name area x y factor)
+known_fields name area x y factor =
+    known_four _ _ _ _ (known_name name) (known_name area) (known_place x y)
+    (known_factor factor)
+
+abbrev Decided : List TargetSite → List (List ℕ) → ℕ → Type 0
+Decided before row n = IsDecided StatesTarget AreTargets IsFirstTargetFault before row n
+
+-- a row that states a target of a name of its own
+by_fresh : (before : List TargetSite) (row : List (List ℕ)) (n : ℕ) (t : TargetSite)
+    → AreTargets before → StatesTarget row t → ¬ Any (λ b. b.name ≡ t.name) before
+    → Decided before row n
+by_fresh before row n t lawful is fresh =
+    elim (cases_lt (length before) 8192) [
+      | inl room ↦ elim (cases_lt 64 (length (areas_of (before ++ t ∷ [])))) [
+        | inl full ↦ inr (faults.TooMany n, (refl, t, is, fresh, inr full))
+        | inr few ↦
+            inl (t, is, targets_more before t lawful fresh room few is.ranges.2 is.ranges.3)
+      ]
+      | inr full ↦ inr (faults.TooMany n, (refl, t, is, fresh, inl full))
+    ]
+
+-- a row that states a target
+by_target : (before : List TargetSite) (row : List (List ℕ)) (n : ℕ) (t : TargetSite)
+    → AreTargets before → StatesTarget row t → Decided before row n
+by_target before row n t lawful is =
+    elim (known_any (λ b. b.name ≡ t.name) (λ b. known_bytes b.name t.name) before) [
+      | inl twice ↦ inr (faults.Twice n, (refl, t, is, twice))
+      | inr fresh ↦ by_fresh before row n t lawful is fresh
+    ]
+
+-- a row of two texts and three numbers
+by_fields : (before : List TargetSite) (row : List (List ℕ)) (n : ℕ) (name area : List ℕ)
+    (x y factor : ℤ) → AreTargets before → take 2 row ≡ name ∷ area ∷ []
+    → AllZip Spells (drop 2 row) (x ∷ y ∷ factor ∷ []) → Decided before row n
+by_fields before row n name area x y factor lawful named spells =
+    elim (known_fields name area x y factor) [
+      | inl within ↦
+          by_target before row n
+          (target name area (record { x = x; y = y }) (record { 0 = factor })) lawful
+          (record { names = named; numbers = spells; ranges = within })
+      | inr other ↦
+          inr (faults.Range n, (refl, name, area, x, y, factor, named, spells, other))
+    ]
+
+first_two : (row : List (List ℕ)) → length row ≡ 5
+    → (name area : List ℕ) × (take 2 row ≡ name ∷ area ∷ [])
+first_two [] l = absurd (omega arith)
+first_two (name ∷ []) l = absurd (omega arith)
+first_two (name ∷ area ∷ rest) l = (name, area, refl)
+
+-- a row of five fields, the last three of them numbers
+by_row : (before : List TargetSite) (row : List (List ℕ)) (n : ℕ) (ns : List ℤ)
+    → AreTargets before → length row ≡ 5 → AllZip Spells (drop 2 row) ns → Decided before row n
+by_row before row n ns lawful five spells =
+    let names = first_two row five in
+    let same = each_length Spells (drop 2 row) ns spells in
+    let is = three_numbers (drop 2 row) ns (omega (arith, five, same, length-drop 2 row)) spells in
+    by_fields before row n names.0 names.1 is.0 is.1 is.2 lawful names.2 is.3
+
+decided : (before : List TargetSite) (row : List (List ℕ)) (n : ℕ) → AreTargets before
+    → Decided before row n
+decided before row n lawful =
+    elim (cases_eq (length row) 5) [
+      | inl five ↦ elim (known_all IsNumber known_number (drop 2 row)) [
+        | inl all ↦
+            let ns = spelled (drop 2 row) all in by_row before row n ns.0 lawful five ns.1
+        | inr other ↦ inr (faults.Number n, (refl, five, other))
+      ]
+      | inr other ↦ inr (faults.Columns n, (refl, other))
+    ]
+
+no_targets : AreTargets []
+no_targets = record {
+  few = omega arith;
+  in_range = All-nil (λ t. IsPlace t.at × IsFactor t.factor);
+  names = λ k j d l m. absurd (omega arith);
+  few_areas = omega arith;
+}
+
 target_format : IsFormat StatesTarget AreTargets IsFirstTargetFault
 target_format = record {
   site = one_target;
@@ -167,17 +252,10 @@ target_format = record {
       (Fresh sites row) (λ numbers. numbers.0) (numbers_stated row) (λ fresh. (fresh.0, fresh.1)) n
       f g (breaks sites row n f a) (breaks sites row n g b);
   none = none_goes_on;
+  empty = no_targets;
+  next = decided;
 }
 
 pub targets_are_told : TargetsAreTold
-targets_are_told bytes = record {
-  sites = λ xs ys a b. one_sites target_header StatesTarget AreTargets IsFirstTargetFault
-      target_format a.0 xs ys a.2 (subst (λ r. StateTargets r ys)
-      (one_list default_config st.StartRecord (strip_bom bytes) b.0 a.0 b.1 a.1) b.2);
-  fault = λ f g a b. one_fault target_header StatesTarget AreTargets IsFirstTargetFault
-      target_format a.0 f g a.2 (subst (λ r. HaveTargetFault r g)
-      (one_list default_config st.StartRecord (strip_bom bytes) b.0 a.0 b.1 a.1) b.2);
-  either = λ xs f a b. no_fault target_header StatesTarget AreTargets IsFirstTargetFault
-      target_format a.0 xs f a.2 (subst (λ r. HaveTargetFault r f)
-      (one_list default_config st.StartRecord (strip_bom bytes) b.0 a.0 b.1 a.1) b.2);
-}
+targets_are_told bytes =
+    one_answer target_header StatesTarget AreTargets IsFirstTargetFault target_format bytes

@@ -3,10 +3,10 @@ use Rattle.std.proofs.Common.{◌≡◌, ◌∙◌, ℤ, ap}
 use Rattle.plum_base.specs.declared.numbers.Point.{Point}
 use Rattle.plum_base.specs.declared.numbers.Tenths.{Tenths}
 
-abbrev point : ℤ → ℤ → Point
+abbrev pub point : ℤ → ℤ → Point
 point x y = record { x = x; y = y }
 
-abbrev tenths : ℤ → Tenths
+abbrev pub tenths : ℤ → Tenths
 tenths t = record { 0 = t }
 
 pub same_point : (p q : Point) → p.x ≡ q.x → p.y ≡ q.y → p ≡ q

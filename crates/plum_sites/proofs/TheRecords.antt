@@ -76,6 +76,11 @@ has_records cfg (suc n) s xs l =
     has_by_next cfg s xs (λ s2 ys less. has_records cfg n s2 ys (omega arith))
     (next_record cfg s [] [] xs) refl
 
+pub some_records : (bytes : List ℕ) → (records : List (List (List ℕ))) × AreRecordsOf bytes records
+some_records bytes =
+    has_records default_config (length (strip_bom bytes)) st.StartRecord (strip_bom bytes)
+    (omega arith)
+
 -- the records behind those that were read
 are_joined : (cfg : Config) (s s2 : State) (xs ys : List ℕ) (first rest : List (List (List ℕ)))
     → Reached cfg s xs first s2 ys → AreRecords cfg s2 ys rest
@@ -88,16 +93,17 @@ are_joined cfg s s2 xs ys (r ∷ first) rest at are =
 
 pub first_of_more : (bytes : List ℕ) (wanted : ℕ) (first : List (List (List ℕ))) (s : State)
     (ys : List ℕ) → Reached default_config st.StartRecord (strip_bom bytes) first s ys
-    → wanted ≤ length first → AreFirstRecordsOf bytes wanted first
-first_of_more bytes wanted first s ys at enough =
+    → wanted ≤ length first → length first ≤ wanted → AreFirstRecordsOf bytes wanted first
+first_of_more bytes wanted first s ys at enough few =
     let rest = has_records default_config (length ys) s ys (omega arith) in (
       rest.0,
       are_joined default_config st.StartRecord s (strip_bom bytes) ys first rest.0 at
           rest.1,
       inr enough,
+      few,
     )
 
 pub first_of_all : (bytes : List ℕ) (wanted : ℕ) (first : List (List (List ℕ)))
-    → AreRecordsOf bytes first → AreFirstRecordsOf bytes wanted first
-first_of_all bytes wanted first are =
-    ([], subst (λ rows. AreRecordsOf bytes rows) (sym (append-nil first)) are, inl refl)
+    → AreRecordsOf bytes first → length first ≤ wanted → AreFirstRecordsOf bytes wanted first
+first_of_all bytes wanted first are few =
+    ([], subst (λ rows. AreRecordsOf bytes rows) (sym (append-nil first)) are, inl refl, few)

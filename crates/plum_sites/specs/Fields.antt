@@ -13,5 +13,6 @@ Spells field n =
     × (((field ≡ digits) × (n ≡ pos (digits_value 10 digits)))
     ⊎ ((field ≡ 45 ∷ digits) × (n ≡ neg_ℤ (pos (digits_value 10 digits)))))
 
+-- a field that spells a number
 abbrev pub IsNumber : List ℕ → Type 0
 IsNumber field = (n : ℤ) × Spells field n

@@ -5,6 +5,7 @@ use Rattle.plum_sites.specs.declared.fault.SiteFault.TheVariants as faults
 use Rattle.plum_sites.specs.declared.fault.SitesRefusal.{SitesRefusal}
 use Rattle.plum_sites.specs.declared.fault.SitesRefusal.TheVariants as refusals
 use Rattle.std.specs.List.{AllZip}
+use Rattle.plum_sites.specs.Records.{AreRecordsOf}
 
 -- of a refusal for a fault, what holds of the fault; memory may be wanting at any time
 abbrev pub IfFault : SitesRefusal → (SiteFault → Type 0) → Type 0
@@ -35,3 +36,18 @@ HasFault header States AreLawful IsFirstFault records fault =
     ((fault ≡ faults.Header) × ((rows : List (List (List ℕ))) → records ≢ header ∷ rows))
     ⊎ ((rows : List (List (List ℕ))) × (records ≡ header ∷ rows)
     × HasRowFault States AreLawful IsFirstFault rows fault)
+
+-- the bytes of a file that states these sites
+abbrev pub AreSitesOf : {X : Type 0} → List (List ℕ) → (List (List ℕ) → X → Type 0)
+    → (List X → Type 0) → List ℕ → List X → Type 0
+AreSitesOf header States AreLawful bytes sites =
+    (records : List (List (List ℕ))) × AreRecordsOf bytes records
+    × StateSites header States AreLawful records sites
+
+-- what is wrong first with the bytes of a file
+abbrev pub IsFaultOf : {X : Type 0} → List (List ℕ) → (List (List ℕ) → X → Type 0)
+    → (List X → Type 0) → (List X → List (List ℕ) → ℕ → SiteFault → Type 0) → List ℕ
+    → SiteFault → Type 0
+IsFaultOf header States AreLawful IsFirstFault bytes fault =
+    (records : List (List (List ℕ))) × AreRecordsOf bytes records
+    × HasFault header States AreLawful IsFirstFault records fault

@@ -7,8 +7,8 @@ use Rattle.csv.specs.declared.parser.State.TheVariants as st
 abbrev pub AreRecordsOf : List ℕ → List (List (List ℕ)) → Type 0
 AreRecordsOf bytes records = AreRecords default_config st.StartRecord (strip_bom bytes) records
 
--- these are the first records of the bytes: all of them, or as many as are wanted
+-- these are the first records of the bytes: as many as are wanted, or all where there are fewer
 abbrev pub AreFirstRecordsOf : List ℕ → ℕ → List (List (List ℕ)) → Type 0
 AreFirstRecordsOf bytes wanted first =
     (rest : List (List (List ℕ))) × AreRecordsOf bytes (first ++ rest)
-    × ((rest ≡ []) ⊎ (wanted ≤ length first))
+    × ((rest ≡ []) ⊎ (wanted ≤ length first)) × (length first ≤ wanted)

@@ -15,6 +15,7 @@ use Rattle.plum_sites.specs.Files.{StateSites, HasFault}
 abbrev pub station_header : List (List ℕ)
 station_header = codes "code" ∷ codes "x" ∷ codes "y" ∷ codes "factor" ∷ []
 
+-- a code stands in two bytes of a packet
 abbrev pub IsCode : ℤ → Type 0
 IsCode code = (pos 0 ≤ℤ code) × (code ≤ℤ pos 65535)
 

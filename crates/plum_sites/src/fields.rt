@@ -14,7 +14,7 @@ fn digits_read(digits: &[u8]) -> Option<i32>
         return None;
     }
     let mut number: u32 = 0;
-    for (i, digit) in digits.iter().enumerate() {
+    for digit in digits {
         if !digit.is_ascii_digit() {
             return None;
         }

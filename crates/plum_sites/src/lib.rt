@@ -13,6 +13,7 @@ mod ranges;
 mod records;
 mod stations;
 mod targets;
+mod walk;
 
 pub use fault::{SiteFault, SitesRefusal};
 pub use laws::files_have_one_answer;

@@ -10,8 +10,8 @@ use plum_base::NoMemory;
 use std::alloc::Global;
 
 /// What an error says of bytes that are all there.
-fn no_memory(_error: Error) -> NoMemory
-    requires { stops_reader (error_kind _error) ≡ true }
+fn no_memory(error: Error) -> NoMemory
+    requires { stops_reader (error_kind error) ≡ true }
 {
     NoMemory
 }
@@ -30,10 +30,7 @@ pub fn first_records(
         .flexible(true)
         .from_reader(alloc, bytes);
     let mut records = Vec::new(alloc);
-    for record in reader.into_byte_records() {
-        if records.len() >= wanted {
-            return Ok(records);
-        }
+    for record in reader.into_byte_records().take(wanted) {
         match record {
             Ok(record) => records.push(record)?,
             Err(error) => return Err(no_memory(error)),

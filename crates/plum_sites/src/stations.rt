@@ -1,27 +1,23 @@
 //! The station file.
 
-ghost use Rattle.std.specs.Prelude.{◌≡◌, ◌≢◌, ◌↔◌, ◌<◌, ◌∷◌, [], List, pos, length, map, All, Any};
+ghost use Rattle.std.specs.Prelude.{◌≡◌, ◌≢◌, ◌↔◌, ◌<◌, ◌∷◌, [], List, pos, length, All, Any, refl};
 ghost use Rattle.std.specs.Prelude.{IsTrue, IfOk, IfErr, IfSome, IfNone};
 ghost use Rattle.csv.specs.Records.{fields_of};
 ghost use Rattle.plum_base.specs.declared.sites.StationSite.{StationSite};
 ghost use Rattle.plum_base.specs.Sites.{MOST_STATIONS as most, AreStations};
 ghost use Rattle.plum_sites.specs.Fields.{Spells, IsNumber};
 ghost use Rattle.std.specs.List.{AllZip};
-ghost use Rattle.plum_sites.specs.Files.{IfFault, HasRowFault};
+ghost use Rattle.plum_sites.specs.Files.{IfFault};
 ghost use Rattle.plum_sites.specs.Stations.{station_header, AreStationNumbers, StatesStation};
-ghost use Rattle.plum_sites.specs.Stations.{IsFirstStationFault, StateStations};
-ghost use Rattle.plum_sites.specs.Stations.{HaveStationFault, AreStationsOf, IsStationFaultOf};
+ghost use Rattle.plum_sites.specs.Stations.{IsFirstStationFault, AreStationsOf, IsStationFaultOf};
 
 use crate::fault::{SiteFault, SitesRefusal};
 use crate::fields::number_read;
 use crate::ranges::{factor, place};
-use crate::records::first_records;
+use crate::walk::{SiteRows, read_sites};
 use csv::ByteRecord;
-use plum_base::StationSite;
+use plum_base::{MOST_STATIONS, StationSite};
 use std::alloc::Global;
-
-/// The most stations of a centre.
-const MOST_STATIONS: usize = 4096;
 
 /// The fields of a row, by column.
 #[derive(Clone, Copy)]
@@ -58,6 +54,7 @@ fn station_fields(row: &ByteRecord) -> Option<StationFields<'_>>
     })
 }
 
+/// The numbers of the fields, if each is a number field.
 fn station_numbers(fields: &StationFields<'_>) -> Option<StationNumbers>
     ensures numbers { let row = fields.now.code.now ∷ fields.now.x.now ∷ fields.now.y.now
         ∷ fields.now.factor.now ∷ [] in
@@ -107,6 +104,7 @@ fn station_of_row(row: &ByteRecord, number: u32) -> Result<StationSite, SiteFaul
     Ok(station)
 }
 
+/// Whether one of the stations has this code.
 fn has_code(stations: &[StationSite], code: u16) -> bool
     ensures { IsTrue result ↔ Any (λ s. s.code ≡ code) stations.now }
 {
@@ -134,42 +132,57 @@ fn next_station(
     Ok(station)
 }
 
-/// The stations of the rows below the header.
-fn stations_in(alloc: Global, rows: &[ByteRecord]) -> Result<Vec<StationSite>, SitesRefusal>
-    ensures stations { IfOk result (λ v. AllZip StatesStation (map fields_of rows.now) v.items
-        × AreStations v.items) }
-    ensures fault { IfErr result (λ e. IfFault e (HasRowFault StatesStation AreStations
-        IsFirstStationFault (map fields_of rows.now))) }
-{
-    let mut stations = Vec::new(alloc);
-    for row in rows {
-        let number = stations.len() as u32 + 2;
-        let station = next_station(stations.as_slice(), row, number)?;
-        stations.push(station)?;
-    }
-    Ok(stations)
+/// The stations of the rows so far.
+#[derive(Drop)]
+struct StationRows {
+    stations: Vec<StationSite>,
 }
 
-fn is_header(row: &ByteRecord) -> bool
-    ensures { IsTrue result ↔ (fields_of row.now ≡ station_header) }
-{
-    station_fields(row).is_some_and(|f| {
-        f.code == b"code".as_slice()
-            && f.x == b"x".as_slice()
-            && f.y == b"y".as_slice()
-            && f.factor == b"factor".as_slice()
-    })
-}
+impl SiteRows for StationRows {
+    type Site = StationSite;
 
-/// The stations that the records of a file state.
-fn stations_of(alloc: Global, records: &[ByteRecord]) -> Result<Vec<StationSite>, SitesRefusal>
-    ensures stations { IfOk result (λ v. StateStations (map fields_of records.now) v.items) }
-    ensures fault { IfErr result (λ e. IfFault e (HaveStationFault (map fields_of records.now))) }
-{
-    match records {
-        [header, rows @ ..] if is_header(header) => stations_in(alloc, rows),
-        _ => Err(SitesRefusal::Sites(SiteFault::Header)),
+    ghost MOST = { most };
+
+    const MOST: u16 = MOST_STATIONS as u16;
+
+    ghost header = { station_header };
+
+    ghost states = { StatesStation };
+
+    ghost are_lawful = { AreStations };
+
+    ghost is_first_fault = { IsFirstStationFault };
+
+    ghost sites = { λ rows. rows.stations.items };
+
+    ghost is_sound = { λ rows. AreStations rows.stations.items };
+
+    fn new(alloc: Global) -> StationRows {
+        StationRows {
+            stations: Vec::new(alloc),
+        }
     }
+
+    fn is_header(row: &ByteRecord) -> bool {
+        station_fields(row).is_some_and(|f| {
+            f.code == b"code".as_slice()
+                && f.x == b"x".as_slice()
+                && f.y == b"y".as_slice()
+                && f.factor == b"factor".as_slice()
+        })
+    }
+
+    fn add(&mut self, row: &ByteRecord, number: u32) -> Result<(), SitesRefusal> {
+        let station = next_station(self.stations.as_slice(), row, number)?;
+        self.stations.push(station)?;
+        Ok(())
+    }
+
+    ghost sound_is_lawful = { λ rows sound. sound };
+
+    ghost lawful_is_few = { λ xs lawful. lawful.few };
+
+    ghost most_fits = { refl };
 }
 
 /// The stations that the bytes of a station file state, or what is wrong first with them.
@@ -178,7 +191,5 @@ pub fn read_stations(alloc: Global, bytes: &[u8]) -> Result<Vec<StationSite>, Si
     ensures lawful { IfOk result (λ v. AreStations v.items) }
     ensures fault { IfErr result (λ e. IfFault e (IsStationFaultOf bytes.now)) }
 {
-    // The header, and a row more than there may be.
-    let records = first_records(alloc, bytes, MOST_STATIONS + 2)?;
-    stations_of(alloc, records.as_slice())
+    read_sites::<StationRows>(alloc, bytes).map(|rows| rows.stations)
 }

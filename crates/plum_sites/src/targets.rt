@@ -1,30 +1,24 @@
 //! The target file.
 
-ghost use Rattle.std.specs.Prelude.{◌≡◌, ◌≢◌, ◌↔◌, ◌<◌, ◌≤◌, ◌⊎◌, ◌∷◌, [], ◌++◌, List, length, map};
-ghost use Rattle.std.specs.Prelude.{All, Any, IsTrue, IfOk, IfErr, IfSome, IfNone, OnOk};
+ghost use Rattle.std.specs.Prelude.{◌≡◌, ◌≢◌, ◌↔◌, ◌<◌, ◌≤◌, ◌∷◌, [], ◌++◌, List, length};
+ghost use Rattle.std.specs.Prelude.{All, Any, IsTrue, IfOk, IfErr, IfSome, IfNone, OnOk, refl};
 ghost use Rattle.csv.specs.Records.{fields_of};
 ghost use Rattle.plum_base.specs.declared.sites.TargetSite.{TargetSite};
 ghost use Rattle.plum_base.specs.Sites.{MOST_TARGETS as most, MOST_AREAS as most_areas, areas_of};
 ghost use Rattle.plum_base.specs.Sites.{AreTargets};
 ghost use Rattle.plum_sites.specs.Fields.{Spells, IsNumber};
 ghost use Rattle.std.specs.List.{AllZip};
-ghost use Rattle.plum_sites.specs.Files.{IfFault, HasRowFault};
+ghost use Rattle.plum_sites.specs.Files.{IfFault};
 ghost use Rattle.plum_sites.specs.Targets.{target_header, AreTargetFields, StatesTarget};
-ghost use Rattle.plum_sites.specs.Targets.{IsFirstTargetFault, StateTargets};
-ghost use Rattle.plum_sites.specs.Targets.{HaveTargetFault, AreTargetsOf, IsTargetFaultOf};
+ghost use Rattle.plum_sites.specs.Targets.{IsFirstTargetFault, AreTargetsOf, IsTargetFaultOf};
 
 use crate::fault::{SiteFault, SitesRefusal};
 use crate::fields::number_read;
 use crate::ranges::{factor, place};
-use crate::records::first_records;
+use crate::walk::{SiteRows, read_sites};
 use csv::ByteRecord;
-use plum_base::{Name, NoMemory, TargetSite};
+use plum_base::{MOST_AREAS, MOST_TARGETS, Name, NoMemory, TargetSite, areas_come_in_order};
 use std::alloc::Global;
-
-/// The most targets and areas of a centre.
-const MOST_TARGETS: usize = 8192;
-
-const MOST_AREAS: usize = 64;
 
 /// The fields of a row, by column.
 #[derive(Clone, Copy)]
@@ -62,6 +56,7 @@ fn target_fields(row: &ByteRecord) -> Option<TargetFields<'_>>
     })
 }
 
+/// The numbers of the fields behind the names, if each is a number field.
 fn target_numbers(fields: &TargetFields<'_>) -> Option<TargetNumbers>
     ensures numbers { let row = fields.now.x.now ∷ fields.now.y.now ∷ fields.now.factor.now ∷ [] in
         IfSome result (λ n. AllZip Spells row (n.x ∷ n.y ∷ n.factor ∷ [])) }
@@ -114,12 +109,14 @@ fn target_of_row(row: &ByteRecord, number: u32) -> Result<TargetSite, SiteFault>
     Ok(target)
 }
 
+/// Whether one of the targets has this name.
 fn has_name(targets: &[TargetSite], name: &Name) -> bool
     ensures { IsTrue result ↔ Any (λ t. t.name ≡ name.now) targets.now }
 {
     targets.iter().any(|t| t.name == *name)
 }
 
+/// Whether this is one of the areas.
 fn is_among(areas: &[Name], area: &Name) -> bool
     ensures { IsTrue result ↔ Any (λ a. a ≡ area.now) areas.now }
 {
@@ -132,6 +129,7 @@ fn has_room(areas: &[Name], target: &TargetSite) -> bool
         → length areas.now ≤ most_areas
         → IsTrue result ↔ (length (areas_of (before ++ target.now ∷ [])) ≤ most_areas) }
 {
+    areas_come_in_order();
     is_among(areas, &target.area) || areas.len() < MOST_AREAS
 }
 
@@ -140,6 +138,7 @@ fn add_area(areas: &mut Vec<Name>, target: &TargetSite) -> Result<(), NoMemory>
     ensures { (before : List TargetSite) → areas.old.items ≡ areas_of before
         → OnOk result (areas.new.items ≡ areas_of (before ++ target.now ∷ [])) }
 {
+    areas_come_in_order();
     if !is_among(areas.as_slice(), &target.area) {
         areas.push(target.area.copy())?;
     }
@@ -171,44 +170,62 @@ fn next_target(
     Ok(target)
 }
 
-/// The targets of the rows below the header.
-fn targets_in(alloc: Global, rows: &[ByteRecord]) -> Result<Vec<TargetSite>, SitesRefusal>
-    ensures targets { IfOk result (λ v. AllZip StatesTarget (map fields_of rows.now) v.items
-        × AreTargets v.items) }
-    ensures fault { IfErr result (λ e. IfFault e (HasRowFault StatesTarget AreTargets
-        IsFirstTargetFault (map fields_of rows.now))) }
-{
-    let mut targets = Vec::new(alloc);
-    let mut areas = Vec::new(alloc);
-    for row in rows {
-        let number = targets.len() as u32 + 2;
-        let target = next_target(targets.as_slice(), areas.as_slice(), row, number)?;
-        add_area(&mut areas, &target)?;
-        targets.push(target)?;
-    }
-    Ok(targets)
+/// The targets of the rows so far, and their areas.
+#[derive(Drop)]
+struct TargetRows {
+    targets: Vec<TargetSite>,
+    areas: Vec<Name>,
 }
 
-fn is_header(row: &ByteRecord) -> bool
-    ensures { IsTrue result ↔ (fields_of row.now ≡ target_header) }
-{
-    target_fields(row).is_some_and(|f| {
-        (f.name == b"name".as_slice() && f.area == b"area".as_slice())
-            && (f.x == b"x".as_slice()
+impl SiteRows for TargetRows {
+    type Site = TargetSite;
+
+    ghost MOST = { most };
+
+    const MOST: u16 = MOST_TARGETS as u16;
+
+    ghost header = { target_header };
+
+    ghost states = { StatesTarget };
+
+    ghost are_lawful = { AreTargets };
+
+    ghost is_first_fault = { IsFirstTargetFault };
+
+    ghost sites = { λ rows. rows.targets.items };
+
+    ghost is_sound = { λ rows. AreTargets rows.targets.items
+        × (rows.areas.items ≡ areas_of rows.targets.items) };
+
+    fn new(alloc: Global) -> TargetRows {
+        TargetRows {
+            targets: Vec::new(alloc),
+            areas: Vec::new(alloc),
+        }
+    }
+
+    fn is_header(row: &ByteRecord) -> bool {
+        target_fields(row).is_some_and(|f| {
+            f.name == b"name".as_slice()
+                && f.area == b"area".as_slice()
+                && f.x == b"x".as_slice()
                 && f.y == b"y".as_slice()
-                && f.factor == b"factor".as_slice())
-    })
-}
-
-/// The targets that the records of a file state.
-fn targets_of(alloc: Global, records: &[ByteRecord]) -> Result<Vec<TargetSite>, SitesRefusal>
-    ensures targets { IfOk result (λ v. StateTargets (map fields_of records.now) v.items) }
-    ensures fault { IfErr result (λ e. IfFault e (HaveTargetFault (map fields_of records.now))) }
-{
-    match records {
-        [header, rows @ ..] if is_header(header) => targets_in(alloc, rows),
-        _ => Err(SitesRefusal::Sites(SiteFault::Header)),
+                && f.factor == b"factor".as_slice()
+        })
     }
+
+    fn add(&mut self, row: &ByteRecord, number: u32) -> Result<(), SitesRefusal> {
+        let target = next_target(self.targets.as_slice(), self.areas.as_slice(), row, number)?;
+        add_area(&mut self.areas, &target)?;
+        self.targets.push(target)?;
+        Ok(())
+    }
+
+    ghost sound_is_lawful = { λ rows sound. sound.0 };
+
+    ghost lawful_is_few = { λ xs lawful. lawful.few };
+
+    ghost most_fits = { refl };
 }
 
 /// The targets that the bytes of a target file state, or what is wrong first with them.
@@ -217,7 +234,5 @@ pub fn read_targets(alloc: Global, bytes: &[u8]) -> Result<Vec<TargetSite>, Site
     ensures lawful { IfOk result (λ v. AreTargets v.items) }
     ensures fault { IfErr result (λ e. IfFault e (IsTargetFaultOf bytes.now)) }
 {
-    // The header, and a row more than there may be.
-    let records = first_records(alloc, bytes, MOST_TARGETS + 2)?;
-    targets_of(alloc, records.as_slice())
+    read_sites::<TargetRows>(alloc, bytes).map(|rows| rows.targets)
 }

@@ -3,9 +3,15 @@ use Rattle.std.proofs.Common.{◌≡◌, ℕ, zero, suc, ◌+◌, ◌-◌, ◌<�
 use Rattle.std.proofs.Common.{None, true, false, refl, ap, ◌∙◌, arith}
 use Rattle.std.proofs.lemmas.Bool.Decides.{nat_tests}
 use native.Mathlib.Numerals.{unary_clauses}
-use Rattle.std.specs.Prelude.{slice_index, nat_le}
+use Rattle.std.specs.Prelude.{slice_index, nat_le, zip, Option}
+use Rattle.std.specs.List.{position_from}
 use Rattle.plum_base.specs.Levels.{RisesUpTo}
-use Rattle.plum_table.specs.Levels.{not_rising_from, first_not_rising}
+use Rattle.plum_table.specs.Levels.{first_not_rising}
+
+-- the position of the first that is not greater than the one before it, behind t, where n is that
+-- of the first
+abbrev not_rising_from : ℕ → ℕ → List ℕ → Option ℕ
+not_rising_from t n ts = position_from (λ (p : ℕ × ℕ). nat_le p.1 p.0) n (zip (t ∷ ts) ts)
 
 not_rising_from-none : (t n : ℕ) (ts : List ℕ)
     → ((j : ℕ) → j < length ts → slice_index (t ∷ ts) j < slice_index ts j)

@@ -11,13 +11,13 @@ use Rattle.plum_table.specs.declared.fault.Field.TheVariants as field
 use Rattle.plum_table.specs.declared.fault.SetupKey.{SetupKey}
 use Rattle.plum_table.specs.declared.fault.SetupFault.{SetupFault}
 use Rattle.plum_table.specs.declared.fault.SetupFault.TheVariants.{NotToml, Kind, Range}
-use Rattle.plum_table.specs.Keys.{name_of, key_of, stage_key}
+use Rattle.plum_table.specs.Keys.{name_of, setup_key, stage_key}
 use Rattle.plum_table.specs.Kinds.{◌>>=◌, of_kind, value_at}
 use Rattle.plum_table.specs.Kinds.{integer_at, natural_at, array_at, walk_from}
 use Rattle.plum_table.specs.Stages.{coefficient_at, rounding_of, stage_of, stages_of}
 use Rattle.plum_table.specs.Levels.{threshold_of, from_zero, levels_of, unless_at, first_not_rising}
 use Rattle.plum_table.specs.Rules.{class_at, cancel_at, rules_of, class_named}
-use Rattle.plum_table.specs.Setup.{gain_of, setup_in}
+use Rattle.plum_table.specs.Setup.{gain_of, setup_in, document_of, setup_of}
 
 -- a value, or another fault
 pub record IsWalked {A : Type 0} (r : Result A SetupFault) : Type 0 where
@@ -97,18 +97,18 @@ rounding key name =
     (choice (bytes_eq name (codes "nearest")) (Ok Nearest) (Err (Range key)) (value Nearest)
     (out key))
 
-threshold : (n : ℕ) (z : ℤ) → IsWalked (threshold_of n z)
-threshold n z =
-    after _ _ (choice _ _ _ (value z) (out (key_of field.Thresholds)))
+threshold : (z : ℤ) → IsWalked (threshold_of z)
+threshold z =
+    after _ _ (choice _ _ _ (value z) (out (setup_key field.Thresholds)))
     (λ t. value (nat_abs t))
 
 first_zero : (ts : List ℕ) → IsWalked (from_zero ts)
-first_zero ts = choice _ _ _ (value ts) (out (key_of field.Thresholds))
+first_zero ts = choice _ _ _ (value ts) (out (setup_key field.Thresholds))
 
 cancel : (table : Members) (raise : Class) → IsWalked (cancel_at table raise)
 cancel table raise =
-    after _ _ (class table (key_of field.Cancel))
-    (λ c. choice _ _ _ (value c) (out (key_of field.Cancel)))
+    after _ _ (class table (setup_key field.Cancel))
+    (λ c. choice _ _ _ (value c) (out (setup_key field.Cancel)))
 
 stage : (n : ℕ) (table : Members) → IsWalked (stage_of n table)
 stage n table =
@@ -124,38 +124,38 @@ stage n table =
 
 gain : (table : Members) → IsWalked (gain_of table)
 gain table =
-    after _ _ (natural table (key_of field.GainG) 1 (2 ^ 31)) (λ g.
-    after _ _ (natural table (key_of field.GainH) 0 31) (λ h. value (record { g = g; h = h })))
+    after _ _ (natural table (setup_key field.GainG) 1 (2 ^ 31)) (λ g.
+    after _ _ (natural table (setup_key field.GainH) 0 31) (λ h. value (record { g = g; h = h })))
 
 stages : (file : Members) → IsWalked (stages_of file)
 stages file =
-    after _ _ (array as_table file (key_of field.Stages) 8) (walked stage_of stage 0)
+    after _ _ (array as_table file (setup_key field.Stages) 8) (walked stage_of stage 0)
 
 levels : (table : Members) → IsWalked (levels_of table)
 levels table =
-    after _ _ (integer table (key_of field.Base) (neg_ℤ (pos 100)) (pos 100)) (λ base.
+    after _ _ (integer table (setup_key field.Base) (neg_ℤ (pos 100)) (pos 100)) (λ base.
     after _ _
     (after _ _
-    (after _ _ (array as_integer table (key_of field.Thresholds) 128)
-    (walked threshold_of threshold 0))
+    (after _ _ (array as_integer table (setup_key field.Thresholds) 128)
+    (walked (λ _ z. threshold_of z) (λ _ z. threshold z) 0))
     first_zero)
     (λ ts. unless (first_not_rising ts) (record { thresholds = ts; base = record { 0 = base } })))
 
 rules : (table : Members) → IsWalked (rules_of table)
 rules table =
-    after _ _ (class table (key_of field.Raise)) (λ raise.
+    after _ _ (class table (setup_key field.Raise)) (λ raise.
     after _ _ (cancel table raise) (λ cancel.
-    after _ _ (natural table (key_of field.Calm) 1 1000) (λ calm.
+    after _ _ (natural table (setup_key field.Calm) 1 1000) (λ calm.
     value (record { raise = raise; cancel = cancel; calm = calm }))))
 
 setup_in-walked : (file : Members) → IsWalked (setup_in file)
 setup_in-walked file =
-    after _ _ (natural file (key_of field.Lanes) 1 16) (λ lanes.
-    after _ _ (natural file (key_of field.Queue) 1 65536) (λ queue.
-    after _ _ (after _ _ (at_key as_table file (key_of field.Gain)) gain) (λ gain.
+    after _ _ (natural file (setup_key field.Lanes) 1 16) (λ lanes.
+    after _ _ (natural file (setup_key field.Queue) 1 65536) (λ queue.
+    after _ _ (after _ _ (at_key as_table file (setup_key field.Gain)) gain) (λ gain.
     after _ _ (stages file) (λ stages.
-    after _ _ (after _ _ (at_key as_table file (key_of field.Levels)) levels) (λ levels.
-    after _ _ (after _ _ (at_key as_table file (key_of field.Rules)) rules) (λ rules.
+    after _ _ (after _ _ (at_key as_table file (setup_key field.Levels)) levels) (λ levels.
+    after _ _ (after _ _ (at_key as_table file (setup_key field.Rules)) rules) (λ rules.
     value (record {
       lanes = lanes;
       queue = queue;
@@ -169,7 +169,9 @@ no_document : (o : Option Members) → (ok_or o NotToml >>= setup_in) ≡ Err No
 no_document None is = refl
 no_document (Some file) is = absurd ((setup_in-walked file).other is)
 
+without_document : (o : Option Members) → o ≡ None → (ok_or o NotToml >>= setup_in) ≡ Err NotToml
+without_document o none = rw none
+
 -- `NotToml` is stated exactly where there is no document.
-pub not_toml : (o : Option Members)
-    → ((ok_or o NotToml >>= setup_in) ≡ Err NotToml) ↔ (o ≡ None)
-not_toml o = (no_document o, λ is. rw is)
+pub not_toml : (bytes : List ℕ) → (setup_of bytes ≡ Err NotToml) ↔ (document_of bytes ≡ None)
+not_toml bytes = (no_document (document_of bytes), without_document (document_of bytes))

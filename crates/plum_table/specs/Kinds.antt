@@ -26,14 +26,15 @@ of_kind kind key (Some d) = ok_or (kind d) (Kind key)
 abbrev pub value_at : {A : Type 0} → (Data → Option A) → Members → SetupKey → Result A SetupFault
 value_at kind table key = of_kind kind key (get_member (name_of key.field) table)
 
--- from the first to the second, both included
+-- the integer, if it lies from low to high, both included
 abbrev pub in_range : SetupKey → ℤ → ℤ → ℤ → Result ℤ SetupFault
 in_range key low high z = if int_le low z && int_le z high then Ok z else Err (Range key)
 
+-- the integer at a key, from low to high, both included
 abbrev pub integer_at : Members → SetupKey → ℤ → ℤ → Result ℤ SetupFault
 integer_at table key low high = value_at as_integer table key >>= in_range key low high
 
--- the same where none is negative
+-- the same as a natural number, where low and high are not negative
 abbrev pub natural_at : Members → SetupKey → ℕ → ℕ → Result ℕ SetupFault
 natural_at table key low high =
     integer_at table key (pos low) (pos high) >>= (λ z. Ok (nat_abs z))
@@ -48,11 +49,12 @@ all_of kind (item d ds) =
 abbrev pub as_array_of : {A : Type 0} → (Data → Option A) → Data → Option (List A)
 as_array_of kind d = option_and_then (all_of kind) (as_array d)
 
--- one to so many
+-- the items, if there are one to so many
 abbrev pub in_count : {A : Type 0} → SetupKey → ℕ → List A → Result (List A) SetupFault
 in_count key most xs =
     if nat_le 1 (length xs) && nat_le (length xs) most then Ok xs else Err (Range key)
 
+-- the array of a kind at a key, with one to so many items
 abbrev pub array_at : {A : Type 0} → (Data → Option A) → Members → SetupKey → ℕ
     → Result (List A) SetupFault
 array_at kind table key most = value_at (as_array_of kind) table key >>= in_count key most

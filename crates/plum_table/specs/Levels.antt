@@ -1,43 +1,38 @@
 -- The threshold table, as the setup file has it (the project's own format).
-use Rattle.std.specs.Prelude.{ℕ, ◌+◌, ◌==◌, nat_le, ℤ, pos, neg_ℤ, nat_abs, List, [], ◌∷◌}
+use Rattle.std.specs.Prelude.{ℕ, ◌==◌, nat_le, ℤ, pos, neg_ℤ, nat_abs, List, zip, drop}
 use Rattle.std.specs.Prelude.{slice_index, Option, Some, None, Result, Ok, Err, if◌then◌else◌}
+use Rattle.std.specs.List.{position_from}
 use Rattle.toml.specs.Data.{Members, as_integer}
 use Rattle.plum_base.specs.declared.numbers.Tenths.{Tenths}
 use Rattle.plum_base.specs.Levels.{LevelsView, greatest_amplitude}
 use Rattle.plum_table.specs.declared.fault.Field.TheVariants as field
 use Rattle.plum_table.specs.declared.fault.SetupFault.{SetupFault}
 use Rattle.plum_table.specs.declared.fault.SetupFault.TheVariants.{Range, Order}
-use Rattle.plum_table.specs.Keys.{key_of}
+use Rattle.plum_table.specs.Keys.{setup_key}
 use Rattle.plum_table.specs.Kinds.{◌>>=◌, integer_at, array_at, in_range, walk_from}
 
 -- a threshold, from 0 to the greatest squared amplitude
-abbrev pub threshold_of : ℕ → ℤ → Result ℕ SetupFault
-threshold_of n z =
-    in_range (key_of field.Thresholds) (pos 0) (pos greatest_amplitude) z
+abbrev pub threshold_of : ℤ → Result ℕ SetupFault
+threshold_of z =
+    in_range (setup_key field.Thresholds) (pos 0) (pos greatest_amplitude) z
     >>= (λ t. Ok (nat_abs t))
 
--- The first is 0.
+-- the thresholds, if the first is 0
 abbrev pub from_zero : List ℕ → Result (List ℕ) SetupFault
 from_zero ts =
-    if slice_index ts 0 == 0 then Ok ts else Err (Range (key_of field.Thresholds))
+    if slice_index ts 0 == 0 then Ok ts else Err (Range (setup_key field.Thresholds))
 
--- each in its range
+-- one to 128 thresholds, each in its range, and the first 0
 abbrev pub thresholds_of : Members → Result (List ℕ) SetupFault
 thresholds_of levels =
-    array_at as_integer levels (key_of field.Thresholds) 128
-    >>= walk_from threshold_of 0 >>= from_zero
+    array_at as_integer levels (setup_key field.Thresholds) 128
+    >>= walk_from (λ _ z. threshold_of z) 0 >>= from_zero
 
--- the position of the first entry that is not greater than the one before it, where n is that of
--- the first of the list
-abbrev pub not_rising_from : ℕ → ℕ → List ℕ → Option ℕ
-not_rising_from before n [] = None
-not_rising_from before n (t ∷ ts) =
-    if nat_le t before then Some n else not_rising_from t (n + 1) ts
-
+-- the position, from 0, of the first entry that is not greater than the one before it
 abbrev pub first_not_rising : List ℕ → Option ℕ
-first_not_rising [] = None
-first_not_rising (t ∷ ts) = not_rising_from t 1 ts
+first_not_rising ts = position_from (λ (p : ℕ × ℕ). nat_le p.1 p.0) 1 (zip ts (drop 1 ts))
 
+-- the value, unless the order breaks at a position
 abbrev pub unless_at : {A : Type 0} → Option ℕ → A → Result A SetupFault
 unless_at None x = Ok x
 unless_at (Some n) x = Err (Order n)
@@ -46,7 +41,8 @@ unless_at (Some n) x = Err (Order n)
 abbrev pub in_order : Tenths → List ℕ → Result LevelsView SetupFault
 in_order base ts = unless_at (first_not_rising ts) (record { thresholds = ts; base = base })
 
+-- the base, from -100 to 100 tenths, and the thresholds in order
 abbrev pub levels_of : Members → Result LevelsView SetupFault
 levels_of levels =
-    integer_at levels (key_of field.Base) (neg_ℤ (pos 100)) (pos 100) >>= (λ base.
+    integer_at levels (setup_key field.Base) (neg_ℤ (pos 100)) (pos 100) >>= (λ base.
     thresholds_of levels >>= in_order (record { 0 = base }))

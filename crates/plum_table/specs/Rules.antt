@@ -14,7 +14,7 @@ use Rattle.plum_table.specs.declared.fault.Field.TheVariants as field
 use Rattle.plum_table.specs.declared.fault.SetupKey.{SetupKey}
 use Rattle.plum_table.specs.declared.fault.SetupFault.{SetupFault}
 use Rattle.plum_table.specs.declared.fault.SetupFault.TheVariants.{Range}
-use Rattle.plum_table.specs.Keys.{key_of}
+use Rattle.plum_table.specs.Keys.{setup_key}
 use Rattle.plum_table.specs.Kinds.{◌>>=◌, value_at, natural_at}
 
 -- the classes of the JMA scale
@@ -25,19 +25,21 @@ classes = C0 ∷ C1 ∷ C2 ∷ C3 ∷ C4 ∷ C5Lower ∷ C5Upper ∷ C6Lower ∷
 abbrev pub class_named : List ℕ → Option Class
 class_named text = find (λ c. bytes_eq (class_text c) text) classes
 
+-- the class whose text stands at a key
 abbrev pub class_at : Members → SetupKey → Result Class SetupFault
 class_at rules key = value_at as_str rules key >>= (λ text. ok_or (class_named text) (Range key))
 
 -- the class below which readings are calm: not above the raise class
 abbrev pub cancel_at : Members → Class → Result Class SetupFault
 cancel_at rules raise =
-    class_at rules (key_of field.Cancel) >>= (λ cancel.
+    class_at rules (setup_key field.Cancel) >>= (λ cancel.
     if nat_le (rank_of cancel) (rank_of raise) then Ok cancel
-    else Err (Range (key_of field.Cancel)))
+    else Err (Range (setup_key field.Cancel)))
 
+-- the raise class, the cancel class, and the calm readings in a row that cancel, from 1 to 1000
 abbrev pub rules_of : Members → Result Rules SetupFault
 rules_of rules =
-    class_at rules (key_of field.Raise) >>= (λ raise.
+    class_at rules (setup_key field.Raise) >>= (λ raise.
     cancel_at rules raise >>= (λ cancel.
-    natural_at rules (key_of field.Calm) 1 1000 >>= (λ calm.
+    natural_at rules (setup_key field.Calm) 1 1000 >>= (λ calm.
     Ok (record { raise = raise; cancel = cancel; calm = calm }))))

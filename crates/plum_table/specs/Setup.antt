@@ -14,7 +14,7 @@ use Rattle.plum_table.specs.declared.fault.SetupFault.{SetupFault}
 use Rattle.plum_table.specs.declared.fault.SetupFault.TheVariants.{NotToml}
 use Rattle.plum_table.specs.declared.fault.TableFault.{TableFault}
 use Rattle.plum_table.specs.declared.fault.TableFault.TheVariants as answer
-use Rattle.plum_table.specs.Keys.{key_of}
+use Rattle.plum_table.specs.Keys.{setup_key}
 use Rattle.plum_table.specs.Kinds.{◌>>=◌, value_at, natural_at}
 use Rattle.plum_table.specs.Stages.{stages_of}
 use Rattle.plum_table.specs.Levels.{levels_of}
@@ -29,6 +29,7 @@ pub record SetupFields : Type 0 where
   pub levels : LevelsView
   pub rules : Rules
 
+-- a setup, as what it holds
 abbrev pub fields_of : Setup → SetupFields
 fields_of s = record {
   lanes = s.lanes;
@@ -39,22 +40,22 @@ fields_of s = record {
   rules = s.rules;
 }
 
--- counts times g, divided by 2^h
+-- counts times g, divided by 2^h: g from 1 to 2^31, h from 0 to 31
 abbrev pub gain_of : Members → Result Gain SetupFault
 gain_of gain =
-    natural_at gain (key_of field.GainG) 1 (2 ^ 31) >>= (λ g.
-    natural_at gain (key_of field.GainH) 0 31 >>= (λ h.
+    natural_at gain (setup_key field.GainG) 1 (2 ^ 31) >>= (λ g.
+    natural_at gain (setup_key field.GainH) 0 31 >>= (λ h.
     Ok (record { g = g; h = h })))
 
 -- The keys of the file, in the order in which they are read.
 abbrev pub setup_in : Members → Result SetupFields SetupFault
 setup_in file =
-    natural_at file (key_of field.Lanes) 1 16 >>= (λ lanes.
-    natural_at file (key_of field.Queue) 1 65536 >>= (λ queue.
-    value_at as_table file (key_of field.Gain) >>= gain_of >>= (λ gain.
+    natural_at file (setup_key field.Lanes) 1 16 >>= (λ lanes.
+    natural_at file (setup_key field.Queue) 1 65536 >>= (λ queue.
+    value_at as_table file (setup_key field.Gain) >>= gain_of >>= (λ gain.
     stages_of file >>= (λ stages.
-    value_at as_table file (key_of field.Levels) >>= levels_of >>= (λ levels.
-    value_at as_table file (key_of field.Rules) >>= rules_of >>= (λ rules.
+    value_at as_table file (setup_key field.Levels) >>= levels_of >>= (λ levels.
+    value_at as_table file (setup_key field.Rules) >>= rules_of >>= (λ rules.
     Ok (record {
       lanes = lanes;
       queue = queue;

@@ -10,10 +10,10 @@ use Rattle.plum_table.specs.declared.fault.Field.TheVariants as field
 use Rattle.plum_table.specs.declared.fault.SetupKey.{SetupKey}
 use Rattle.plum_table.specs.declared.fault.SetupFault.{SetupFault}
 use Rattle.plum_table.specs.declared.fault.SetupFault.TheVariants.{Range}
-use Rattle.plum_table.specs.Keys.{key_of, stage_key}
+use Rattle.plum_table.specs.Keys.{setup_key, stage_key}
 use Rattle.plum_table.specs.Kinds.{◌>>=◌, value_at, integer_at, natural_at, array_at, walk_from}
 
--- a multiple of 2^-q
+-- a coefficient in units of 2^-q, from -2^30 to 2^30
 abbrev pub coefficient_at : Members → SetupKey → Result ℤ SetupFault
 coefficient_at stage key = integer_at stage key (neg_ℤ (pos (2 ^ 30))) (pos (2 ^ 30))
 
@@ -36,5 +36,6 @@ stage_of n stage =
     >>= rounding_of (stage_key field.Round n) >>= (λ round.
     Ok (record { b0 = b0; b1 = b1; b2 = b2; a1 = a1; a2 = a2; q = q; round = round }))))))))
 
+-- one to eight stages, in the order of the file
 abbrev pub stages_of : Members → Result (List Stage) SetupFault
-stages_of file = array_at as_table file (key_of field.Stages) 8 >>= walk_from stage_of 0
+stages_of file = array_at as_table file (setup_key field.Stages) 8 >>= walk_from stage_of 0

@@ -5,6 +5,7 @@ use Rattle.toml.specs.Data.{Data}
 use Rattle.toml.specs.View.{view}
 use Rattle.toml.specs.declared.value.Value.{Value}
 
+-- each item is of the kind
 abbrev pub AreAll : {A : Type 0} → (Data → Option A) → List Value → Type 0
 AreAll kind values = All (λ v. IsSome (kind (view v))) values
 

@@ -1,7 +1,7 @@
 //! What is wrong with a setup file, and the key at which it is.
 
-ghost use Rattle.std.specs.Prelude.{◌≡◌};
-ghost use Rattle.plum_table.specs.Keys.{name_of, key_of, stage_key};
+ghost use Rattle.std.specs.Prelude.{◌≡◌, Some};
+ghost use Rattle.plum_table.specs.Keys.{name_of, setup_key, stage_key, key_text};
 
 use std::fmt;
 use thiserror::Error;
@@ -71,7 +71,7 @@ pub struct SetupKey {
 impl SetupKey {
     /// A key outside of the stages.
     pub fn of(field: Field) -> SetupKey
-        ensures { result ≡ key_of field }
+        ensures { result ≡ setup_key field }
     {
         SetupKey { field, stage: 0 }
     }
@@ -86,6 +86,8 @@ impl SetupKey {
 
 /// The key as the file has it, for example `levels.base` or `stage[2].b1`.
 impl fmt::Display for SetupKey {
+    ghost output = { λ key. Some (key_text key) };
+
     fn fmt<W: fmt::Write>(&self, f: &mut fmt::Formatter<W>) -> fmt::Result {
         let name = self.field.name();
         match self.field {

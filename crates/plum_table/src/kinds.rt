@@ -1,6 +1,6 @@
 //! What stands at a key, by its kind.
 
-ghost use Rattle.std.specs.Prelude.{◌≡◌, ◌↔◌, ◌≤◌, ◌≤ℤ◌, length, option_map, IfOk, IsTrue};
+ghost use Rattle.std.specs.Prelude.{◌≡◌, ◌↔◌, ◌≤◌, ◌≤ℤ◌, length, option_map, Some, IfOk, IsTrue};
 ghost use Rattle.std.specs.Result.{result_map_both};
 ghost use Rattle.toml.specs.Data.{as_integer, as_str, as_table, as_array, get_member};
 ghost use Rattle.toml.specs.View.{view, table_view, array_view};
@@ -12,7 +12,7 @@ use crate::fault::{SetupFault, SetupKey};
 use toml::value::Array;
 use toml::{Table, Value};
 
-/// What stands at a key of a table.
+/// What stands at a key, if the table has it.
 fn find(table: &Table, key: SetupKey) -> Option<&Value>
     ensures { option_map (λ v. view v.now) result
         ≡ get_member (name_of key.field) (table_view table.now) }
@@ -20,16 +20,20 @@ fn find(table: &Table, key: SetupKey) -> Option<&Value>
     table.get(key.field.name())
 }
 
+/// The value at a key, of whatever kind.
+fn present(table: &Table, key: SetupKey) -> Result<&Value, SetupFault>
+    ensures { result_map_both (λ v. view v.now) (λ e. e) result
+        ≡ value_at Some (table_view table.now) key }
+{
+    find(table, key).ok_or(SetupFault::Missing(key))
+}
+
 /// The integer at a key, of a range.
 pub fn integer(table: &Table, key: SetupKey, low: i64, high: i64) -> Result<i64, SetupFault>
     ensures value { result ≡ integer_at (table_view table.now) key low high }
     ensures range { IfOk result (λ z. (low ≤ℤ z) × (z ≤ℤ high)) }
 {
-    let value = match find(table, key) {
-        Some(value) => value,
-        None => return Err(SetupFault::Missing(key)),
-    };
-    match value.as_integer() {
+    match present(table, key)?.as_integer() {
         Some(z) if low <= z && z <= high => Ok(z),
         Some(_) => Err(SetupFault::Range(key)),
         None => Err(SetupFault::Kind(key)),
@@ -41,10 +45,7 @@ pub fn text(table: &Table, key: SetupKey) -> Result<&str, SetupFault>
     ensures { result_map_both (λ s. s.now) (λ e. e) result
         ≡ value_at as_str (table_view table.now) key }
 {
-    match find(table, key) {
-        Some(value) => value.as_str().ok_or(SetupFault::Kind(key)),
-        None => Err(SetupFault::Missing(key)),
-    }
+    present(table, key)?.as_str().ok_or(SetupFault::Kind(key))
 }
 
 /// The table at a key.
@@ -52,10 +53,7 @@ pub fn table(table: &Table, key: SetupKey) -> Result<&Table, SetupFault>
     ensures { result_map_both (λ t. table_view t.now) (λ e. e) result
         ≡ value_at as_table (table_view table.now) key }
 {
-    match find(table, key) {
-        Some(value) => value.as_table().ok_or(SetupFault::Kind(key)),
-        None => Err(SetupFault::Missing(key)),
-    }
+    present(table, key)?.as_table().ok_or(SetupFault::Kind(key))
 }
 
 /// The number at a key, of a range without negative numbers.
@@ -71,18 +69,17 @@ fn array(table: &Table, key: SetupKey) -> Result<&Array, SetupFault>
     ensures { result_map_both (λ a. array_view a.now) (λ e. e) result
         ≡ value_at as_array (table_view table.now) key }
 {
-    match find(table, key) {
-        Some(value) => value.as_array().ok_or(SetupFault::Kind(key)),
-        None => Err(SetupFault::Missing(key)),
-    }
+    present(table, key)?.as_array().ok_or(SetupFault::Kind(key))
 }
 
+/// Whether all items are tables.
 fn are_tables(items: &[Value]) -> bool
     ensures { IsTrue result ↔ AreAll as_table items.now }
 {
     items.iter().all(|item| item.is_table())
 }
 
+/// Whether all items are integers.
 fn are_integers(items: &[Value]) -> bool
     ensures { IsTrue result ↔ AreAll as_integer items.now }
 {

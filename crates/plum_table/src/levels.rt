@@ -1,6 +1,6 @@
 //! The threshold table.
 
-ghost use Rattle.std.specs.Prelude.{◌≡◌, ◌≤◌, ℕ, length, All, IfOk};
+ghost use Rattle.std.specs.Prelude.{◌≡◌, ◌≤◌, length, All, IfOk};
 ghost use Rattle.std.specs.Result.{result_map_both};
 ghost use Rattle.toml.specs.Data.{as_integer};
 ghost use Rattle.toml.specs.View.{table_view};
@@ -20,7 +20,7 @@ const GREATEST: i64 = 3 << 60;
 
 /// A threshold in its range.
 fn threshold(z: i64) -> Result<u64, SetupFault>
-    ensures value { (n : ℕ) → result ≡ threshold_of n z }
+    ensures value { result ≡ threshold_of z }
     ensures range { IfOk result (λ t. t ≤ greatest_amplitude) }
 {
     if 0 <= z && z <= GREATEST {
@@ -35,7 +35,7 @@ fn read_thresholds(values: &[Value]) -> Result<ArrayVec<u64, 128>, SetupFault>
     requires few { length values.now ≤ 128 }
     requires integers { AreAll as_integer values.now }
     ensures value { result_map_both (λ t. t.items) (λ e. e) result
-        ≡ walk_from threshold_of 0 (values_as as_integer values.now) }
+        ≡ walk_from (λ _ z. threshold_of z) 0 (values_as as_integer values.now) }
     ensures range { IfOk result (λ t. All (λ x. x ≤ greatest_amplitude) t.items) }
     ensures count { IfOk result (λ t. length t.items ≡ length values.now) }
 {

@@ -8,10 +8,12 @@
 
 mod fault;
 mod kinds;
+mod laws;
 mod levels;
 mod rules;
 mod setup;
 mod stages;
 
 pub use fault::{Field, SetupFault, SetupKey, TableFault};
+pub use laws::setups_come_from_documents;
 pub use setup::read_setup;

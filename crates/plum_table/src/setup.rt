@@ -1,11 +1,9 @@
 //! The walk through the keys of a setup file.
 
-ghost use Rattle.std.specs.Prelude.{◌≡◌, ◌↔◌, None, IfOk, IfErr, Ok, Err};
+ghost use Rattle.std.specs.Prelude.{◌≡◌, IfOk, IfErr, Ok, Err};
 ghost use Rattle.toml.specs.View.{table_view};
 ghost use Rattle.plum_base.specs.Setup.{IsGain};
-ghost use Rattle.plum_table.specs.Setup.{gain_of, setup_in, document_of, setup_of};
-ghost use Rattle.plum_table.specs.Setup.{fields_of, IsStatedFault};
-ghost use Rattle.plum_table.specs.declared.fault.SetupFault.TheVariants.{NotToml};
+ghost use Rattle.plum_table.specs.Setup.{gain_of, setup_in, setup_of, fields_of, IsStatedFault};
 
 use crate::fault::{Field, SetupFault, SetupKey, TableFault};
 use crate::kinds;
@@ -52,9 +50,6 @@ fn walk(file: &Table) -> Result<Setup, SetupFault>
 pub fn read_setup(alloc: Global, bytes: &[u8]) -> Result<Setup, TableFault>
     ensures ok { IfOk result (λ s. setup_of bytes.now ≡ Ok (fields_of s)) }
     ensures fault { IfErr result (IsStatedFault (setup_of bytes.now)) }
-
-    // `NotToml` is stated exactly where there is no document.
-    ensures not_toml { (setup_of bytes.now ≡ Err NotToml) ↔ (document_of bytes.now ≡ None) }
 {
     let file = match toml::table_from_slice(alloc, bytes) {
         Ok(file) => file,

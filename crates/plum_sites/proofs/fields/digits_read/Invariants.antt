@@ -2,8 +2,8 @@ use Rattle.std.proofs.Common.{◌≡◌, take}
 use Rattle.std.specs.Str.Parse.{AllDigits, digits_value}
 use Rattle.plum_sites.proofs.fields.digits_read.Given as goal
 
-abbrev pub invariant-loop-i : goal.invariant-loop-i
-invariant-loop-i l = record {
-  digits : AllDigits 10 (take l.i l.digits);
-  value : l.number ≡ digits_value 10 (take l.i l.digits);
+abbrev pub invariant-loop-digit : goal.invariant-loop-digit
+invariant-loop-digit l = record {
+  digits : AllDigits 10 (take l.digit-index l.digits);
+  value : l.number ≡ digits_value 10 (take l.digit-index l.digits);
 }

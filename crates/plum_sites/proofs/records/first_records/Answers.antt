@@ -1,5 +1,6 @@
 use Rattle.std.proofs.Common.{Bor, List, ℕ, ◌∙◌, sym, refl, inl, inr, map, Some, ◌∷◌, []}
-use Rattle.std.proofs.Common.{◌≤◌, length, arith}
+use Rattle.std.proofs.Common.{◌≡◌, ◌≤◌, ◌+◌, ap, length, arith, length-append}
+use Rattle.std.proofs.lemmas.Bool.{cases_lt}
 use Rattle.std.proofs.lemmas.List.{map-append, length-map}
 use Rattle.plum_sites.proofs.TheRecords.{first_of_more, first_of_all}
 use Rattle.csv.specs.Reading.{Reached, default_config, strip_bom}
@@ -15,9 +16,10 @@ loop-record-init c =
     let e = c.flexible.ensures in
     let h = c.has_headers.ensures in
     let start = c.into_iter-record-iterator.ensures.into_iter_gives ∙ refl in
-    let rdr = c.into_byte_records-record-items.ensures.rdr in
-    let left = c.into_byte_records-record-items.ensures.left in
-    rw (start, rdr, c.new-records.ensures.items) (
+    let rdr = c.into_byte_records.ensures.rdr in
+    let left = c.into_byte_records.ensures.left in
+    let take = c.take-record-items.ensures in
+    rw (start, take.source, take.count, rdr, c.new-records.ensures.items) (
       rw (e, h) at fr.trim ∙ c.new.ensures.trim,
       inr (inr (rw (e, h) at fr.has_headers, fr.headers)),
       left,
@@ -26,16 +28,19 @@ loop-record-init c =
       fr.source,
       (sym fr.state, refl),
       rw e at fr.flexible,
+      omega arith,
     )
 
 pub loop-record-preserved : goal.loop-record-preserved
 loop-record-preserved c =
     let inv = c.loop-record.invariant in
-    let steps = rw (c.in-Some.is, c.in-Ok.is) at (c.next.ensures.steps inv.2 inv.0) in
+    let went = rw (c.in-Some.is, c.in-Ok.is) at c.next.ensures.steps in
+    let steps = went.0 inv.2 inv.0 in
+    let count : c.next.new.self.n + 1 ≡ c.loop-record.record-iterator.n = went.1 in
     let s = steps.0 inv.1 in
     let items = c.in_ok-push-in-Ok.ensures.items in
-    let m = rows-more (λ (s : Bor (List ℕ)). Some s.now) c.loop-record.record-iterator.rdr
-    c.next.new.self.rdr (fields_of c.in-Ok.record) default_config st.StartRecord
+    let m = rows-more (λ (s : Bor (List ℕ)). Some s.now) c.loop-record.record-iterator.iter.rdr
+    c.next.new.self.iter.rdr (fields_of c.in-Ok.record) default_config st.StartRecord
     (strip_bom c.args.bytes.now) inv.4 (map fields_of c.loop-record.records.items) inv.3 inv.5 inv.6
     s.0 in (
       s.0.3 ∙ inv.0,
@@ -46,22 +51,32 @@ loop-record-preserved c =
       m.1,
       rw (items, map-append fields_of c.loop-record.records.items (c.in-Ok.record ∷ [])) m.2,
       steps.3 ∙ inv.7,
+      omega (
+        arith,
+        inv.8,
+        count,
+        ap length items,
+        length-append c.loop-record.records.items
+            (c.in-Ok.record ∷ []),
+      ),
     )
-
-pub returns-then-len-wanted : goal.returns-then-len-wanted
-returns-then-len-wanted c =
-    let inv = c.loop-record.invariant in
-    let first = map fields_of c.loop-record.records.items in
-    let enough : c.args.wanted ≤ length first =
-    omega (arith, length-map c.loop-record.records.items fields_of) in
-    first_of_more c.args.bytes.now c.args.wanted first c.loop-record.record-iterator.rdr.state inv.4
-    inv.6 enough
 
 pub returns : goal.returns
 returns c =
     let inv = c.loop-record.invariant in
-    let s = rw c.in-None.is at ((c.next.ensures.steps inv.2 inv.0).0 inv.1) in
-    let ends = rows-end (λ (s : Bor (List ℕ)). Some s.now) c.loop-record.record-iterator.rdr
-    c.next.new.self.rdr [] default_config inv.4 inv.3 inv.5 s in
-    first_of_all c.args.bytes.now c.args.wanted (map fields_of c.loop-record.records.items)
-    (c.loop-record.record-iterator.rdr.state, inv.4, inv.6, ends)
+    let first = map fields_of c.loop-record.records.items in
+    let size = length-map c.loop-record.records.items fields_of in
+    let few : length first ≤ c.args.wanted = omega (arith, inv.8, size) in
+    elim (cases_lt 0 c.loop-record.record-iterator.n) [
+      | inl more ↦
+          let s = ((rw c.in-None.is at c.next.ensures.steps) more inv.2 inv.0).0 inv.1 in
+          let ends = rows-end (λ (s : Bor (List ℕ)). Some s.now)
+          c.loop-record.record-iterator.iter.rdr c.next.new.self.iter.rdr [] default_config inv.4
+          inv.3 inv.5 s in
+          first_of_all c.args.bytes.now c.args.wanted first
+          (c.loop-record.record-iterator.iter.rdr.state, inv.4, inv.6, ends) few
+      | inr none ↦
+          first_of_more c.args.bytes.now c.args.wanted first
+          c.loop-record.record-iterator.iter.rdr.state inv.4 inv.6 (omega (arith, inv.8, size))
+          few
+    ]

@@ -15,8 +15,8 @@ returns-in_err-threshold-clause-value c =
     let kind : as_integer (view v) ≡ Some c.unwrap.result =
     sym c.as_integer.ensures ∙ c.unwrap.ensures in
     let same : to_z w64 (of_z w64 c.unwrap.result) ≡ c.unwrap.result = grind (arith, ints) in
-    let read = rw same at (c.in_err-threshold.ensures.value c.loop-value.value-index) in
-    let stop = read_fault threshold_of as_integer _ _ _ v _ _ (omega arith)
+    let read = rw same at c.in_err-threshold.ensures.value in
+    let stop = read_fault (λ _ z. threshold_of z) as_integer _ _ _ v _ _ (omega arith)
     (sym c.value-item.is) kind (sym read) c.loop-value.invariant.0 in
     let exit = err_from_is_err_and c.from_residual.result c.from_residual.ensures.1 in
     rw (exit.1, exit.2, stop)
@@ -27,10 +27,10 @@ loop-value-preserved c =
     let kind : as_integer (view v) ≡ Some c.unwrap.result =
     sym c.as_integer.ensures ∙ c.unwrap.ensures in
     let same : to_z w64 (of_z w64 c.unwrap.result) ≡ c.unwrap.result = grind (arith, ints) in
-    let read = rw same at (c.in_ok-threshold.ensures.value c.loop-value.value-index) in (
+    let read = rw same at c.in_ok-threshold.ensures.value in (
       rw c.push.ensures.items
-          (read_more threshold_of as_integer _ _ _ v _ _ (omega arith) (sym c.value-item.is) kind
-          (sym read) c.loop-value.invariant.0),
+          (read_more (λ _ z. threshold_of z) as_integer _ _ _ v _ _ (omega arith)
+          (sym c.value-item.is) kind (sym read) c.loop-value.invariant.0),
       rw c.push.ensures.items
           (All-push (λ t. t ≤ greatest_amplitude) _ _ c.loop-value.invariant.1
           c.in_ok-threshold.ensures.range),

@@ -8,5 +8,5 @@ use Rattle.plum_table.proofs.levels.read_thresholds.Given as goal
 
 abbrev pub invariant-loop-value : goal.invariant-loop-value
 invariant-loop-value l =
-    ReadSoFar threshold_of as_integer l.values l.value-index l.thresholds.items
+    ReadSoFar (λ _ z. threshold_of z) as_integer l.values l.value-index l.thresholds.items
     × All (λ t. t ≤ greatest_amplitude) l.thresholds.items
