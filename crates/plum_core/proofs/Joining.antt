@@ -81,7 +81,7 @@ module _ (laws : KeyLaws) (history : List Entry) (ps : List Packet)
         fresh = entry.fresh ∙ sym (ap (λ k. is_fresh k p) holds ∙ laws.fresh_after_kept ps p);
         value =
             subst (λ given. IsValue setup.levels
-            (amplitudes_of setup.gain (samples_since_gap given)) e.value) (sym own) entry.value;
+            (amplitudes_of setup (samples_since_gap given)) e.value) (sym own) entry.value;
       }
 
 -- where a list with one more at its end is split

@@ -14,3 +14,5 @@ pub mod Later
 pub mod OneReply
 pub mod Existing
 pub mod MoreEvents
+pub mod Givings
+pub mod Once

@@ -94,5 +94,5 @@ module _ (setup : Setup) (ps : List Packet) (p : Packet) where
     -- which tells the station's value.
     pub IsValueOf-kept : (value : Option Tenths)
         → let run = samples_since_gap (with_fresh own ++ (fresh, p.wave) ∷ []) in
-        IsValue setup.levels (amplitudes_of setup.gain run) value → IsValueOf setup more value
+        IsValue setup.levels (amplitudes_of setup run) value → IsValueOf setup more value
     IsValueOf-kept value is_value = rw given at is_value

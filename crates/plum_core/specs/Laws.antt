@@ -1,5 +1,5 @@
--- The statements of the laws of histories and of the machine. A station's value is known so far
--- where the cascade passes its input through, and the laws that rest on it have that as a premise.
+-- The statements of the laws of histories and of the machine. A real setup has a lawful table; a
+-- ghost one may have any, so the laws that rest on it have that as a premise.
 use Rattle.std.specs.Prelude.{◌≡◌, ◌≢◌, ◌↔◌, ℕ, ◌<◌, ◌≤◌, List, [], ◌∷◌, ◌++◌, length, map, take}
 use Rattle.std.specs.Prelude.{slice_get, All, Some, None, IsSomeAnd}
 use Rattle.std.specs.List.{flat_map}
@@ -12,12 +12,15 @@ use Rattle.plum_base.specs.Lane.{lane_of}
 use Rattle.plum_base.specs.Levels.{IsLevelTable}
 use Rattle.plum_base.specs.Sites.{SitesView, areas_of}
 use Rattle.plum_seq.specs.Keys.{of_station, kept, kept_after}
-use Rattle.plum_engine.specs.Engine.{pass_through, IsValueOf}
+use Rattle.plum_engine.specs.Engine.{IsValueOf}
 use Rattle.plum_geo.specs.Prediction.{shown}
 use Rattle.plum_core.specs.declared.event.Event.{Event}
 use Rattle.plum_core.specs.declared.event.Reply.{Reply}
 use Rattle.plum_core.specs.History.{packets_of, entries_of_lane, IsEntryAfter, IsValidHistory}
-use Rattle.plum_core.specs.History.{HoldsKept, packet_of}
+use Rattle.plum_core.specs.History.{HoldsKept, packet_of, IsEachOnce}
+use Rattle.plum_core.specs.declared.station.Station.{Station}
+use Rattle.plum_core.specs.declared.station.Taken.{Taken}
+use Rattle.plum_core.specs.Station.{Stands, Gives, waiting_of}
 use Rattle.plum_core.specs.Facts.{IsInLaneOrder, IsBacklog, KeepsFacts}
 use Rattle.plum_core.specs.Machine.{State, start, step, state_after, waiting_after, AreReplies}
 use Rattle.plum_core.specs.Machine.{IsReadAt, NamesExist}
@@ -26,16 +29,11 @@ use Rattle.plum_base.specs.Sites.{targets_of}
 use Rattle.plum_core.specs.Transcript.{ArePredictions, IsLegal, IsLegalUpTo, IsLegalOver}
 use Rattle.plum_core.specs.Transcript.{AreReadingsOver, with_part, with_readings}
 
--- The setup's cascade passes its input through, and its table is lawful.
-pub record IsPlain (setup : Setup) : Type 0 where
-  pub cascade : setup.cascade ≡ pass_through
-  pub table : IsLevelTable setup.levels
-
 -- What a station shows in a valid history is its value there: the plain function of its
 -- packets since its last gap.
 abbrev pub ShowsItsValue : Type 0
-ShowsItsValue = (setup : Setup) (stations s : ℕ) (history : List Entry) → IsPlain setup
-    → IsValidHistory setup stations history
+ShowsItsValue = (setup : Setup) (stations s : ℕ) (history : List Entry)
+    → IsLevelTable setup.levels → IsValidHistory setup stations history
     → IsValueOf setup (packets_of s history) (shown stations history s)
 
 -- A front of a valid history is valid.
@@ -70,7 +68,7 @@ LegalByStation = (setup : Setup) (sites : SitesView) (segments : List (List Pack
 -- In any front of its journal each station shows its value after its packets there.
 abbrev pub LegalShows : Type 0
 LegalShows = (setup : Setup) (sites : SitesView) (segments : List (List Packet)) (t : Transcript)
-    (n s : ℕ) → IsPlain setup → IsLegal setup sites segments t
+    (n s : ℕ) → IsLevelTable setup.levels → IsLegal setup sites segments t
     → IsValueOf setup (packets_of s (take n (journal_of t)))
     (shown (length sites.stations) (take n (journal_of t)) s)
 
@@ -109,10 +107,29 @@ FewerReadings = (setup : Setup) (sites : SitesView) (segments : List (List Packe
 -- A packet taken by a lane in which nothing waits keeps the lane's backlog.
 abbrev pub TakingKeeps : Type 0
 TakingKeeps = (setup : Setup) (stations : ℕ) (taken : List Packet) (p : Packet) (sent : List Entry)
-    → IsPlain setup → p.station.0 < stations
+    → IsLevelTable setup.levels → p.station.0 < stations
     → IsBacklog setup stations (lane_of setup.lanes p.station.0) taken None sent
     → IsBacklog setup stations (lane_of setup.lanes p.station.0) (taken ++ p ∷ [])
     (waiting_after setup taken p) sent
+
+-- So does what its station gives for it: a kept packet's entry waits then.
+abbrev pub GivingKeeps : Type 0
+GivingKeeps = (setup : Setup) (stations : ℕ) (taken : List Packet) (p : Packet) (sent : List Entry)
+    (given : Taken) → p.station.0 < stations
+    → Gives setup taken (record { 0 = lane_of setup.lanes p.station.0 }) p given
+    → IsBacklog setup stations (lane_of setup.lanes p.station.0) taken None sent
+    → IsBacklog setup stations (lane_of setup.lanes p.station.0) (taken ++ p ∷ [])
+    (waiting_of given) sent
+
+-- A station stands for the packets that another one's packet joins, as before.
+abbrev pub OthersStand : Type 0
+OthersStand = (station : Station) (setup : Setup) (s : ℕ) (packets : List Packet) (p : Packet)
+    → p.station.0 ≢ s → Stands station setup s packets → Stands station setup s (packets ++ p ∷ [])
+
+-- A valid history holds no key of a station twice.
+abbrev pub EachOnce : Type 0
+EachOnce = (setup : Setup) (stations : ℕ) (history : List Entry)
+    → IsValidHistory setup stations history → IsEachOnce history
 
 -- A valid history stays valid when a lane's next entry joins its end: one that is correct after
 -- what the lane sent.
@@ -149,13 +166,14 @@ abbrev pub FactsAtStart : Type 0
 FactsAtStart = (setup : Setup) (stations : ℕ) → KeepsFacts setup stations start
 
 abbrev pub StepKeepsFacts : Type 0
-StepKeepsFacts = (setup : Setup) (sites : SitesView) (s : State) (event : Event) → IsPlain setup
-    → NamesExist setup sites event → KeepsFacts setup (length sites.stations) s
+StepKeepsFacts = (setup : Setup) (sites : SitesView) (s : State) (event : Event)
+    → IsLevelTable setup.levels → NamesExist setup sites event
+    → KeepsFacts setup (length sites.stations) s
     → KeepsFacts setup (length sites.stations) (step setup s event)
 
 abbrev pub EventsKeepFacts : Type 0
-EventsKeepFacts = (setup : Setup) (sites : SitesView) (events : List Event) → IsPlain setup
-    → All (NamesExist setup sites) events
+EventsKeepFacts = (setup : Setup) (sites : SitesView) (events : List Event)
+    → IsLevelTable setup.levels → All (NamesExist setup sites) events
     → KeepsFacts setup (length sites.stations) (state_after setup start events)
 
 -- These are the replies to the events from the start, and this reading is the reply at position i,

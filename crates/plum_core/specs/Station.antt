@@ -1,6 +1,6 @@
 -- Stations at work.
 use Rattle.std.specs.Prelude.{◌≡◌, ℕ, ◌<◌, ◌==◌, true, if◌then◌else◌, List, [], ◌∷◌, ◌++◌}
-use Rattle.std.specs.Prelude.{length, slice_index_or}
+use Rattle.std.specs.Prelude.{length, slice_index_or, Option, Some, None}
 use Rattle.plum_base.specs.declared.entry.Entry.{Entry}
 use Rattle.plum_base.specs.declared.packet.Packet.{Packet}
 use Rattle.plum_base.specs.declared.numbers.LaneNo.{LaneNo}
@@ -34,6 +34,11 @@ abbrev pub Gives : Setup → List Packet → LaneNo → Packet → Taken → Typ
 Gives setup earlier lane packet (Repeat last) =
     IsVerdict (keys_of packet.station.0 earlier) packet.key (verdicts.Repeat last)
 Gives setup earlier lane packet (Kept e) = IsEntryOf setup earlier lane packet e
+
+-- what waits in a lane after it: the entry of a kept packet, and nothing after a repeat
+abbrev pub waiting_of : Taken → Option Entry
+waiting_of (Kept e) = Some e
+waiting_of (Repeat last) = None
 
 -- The stations of a network of this setup were given these packets, by the number of the station.
 pub record StandFor (network : Network) (setup : Setup) (given : ℕ → List Packet) : Type 0 where

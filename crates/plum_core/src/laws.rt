@@ -8,7 +8,7 @@ ghost use Rattle.plum_core.specs.Laws.{NextEntryJoins, WaitingEntryJoins, OrderJ
 ghost use Rattle.plum_core.specs.Laws.{SendingKeeps, FactsAtStart, StepKeepsFacts, EventsKeepFacts};
 ghost use Rattle.plum_core.specs.Laws.{FrontIsGathered, AnswersArePredictions, FrontIsPublished};
 ghost use Rattle.plum_core.specs.Laws.{FrontHoldsSeen, FrontsRise, RepliesExist, OneForEach};
-ghost use Rattle.plum_core.specs.Laws.{NoOthers};
+ghost use Rattle.plum_core.specs.Laws.{NoOthers, GivingKeeps, OthersStand, EachOnce};
 
 use plum_engine::one_value;
 use plum_geo::near_stations_are_those_near;
@@ -52,6 +52,21 @@ pub fn taking_keeps_backlog()
     kept_packets();
     one_value();
 }
+
+/// What a station gives for a packet, to a lane in which nothing waits, and what the packet leaves
+/// alone.
+pub fn giving_keeps_backlog()
+    ensures backlog { GivingKeeps }
+    ensures others { OthersStand }
+{
+    // For the contract: what is known of keys.
+    kept_packets();
+}
+
+/// A valid history holds no key of a station twice.
+pub fn valid_histories_hold_each_once()
+    ensures { EachOnce }
+{}
 
 /// What sending the waiting entry of a lane does.
 pub fn sending_keeps_validity()

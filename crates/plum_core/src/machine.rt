@@ -1,7 +1,6 @@
 //! The machine at work: each event is one step of it.
 
 ghost use Rattle.std.specs.Prelude.{◌≡◌, ◌<◌, ◌≤◌, length, vec_len, OnOk, OnErr, IfOk};
-ghost use Rattle.plum_engine.specs.Engine.{pass_through};
 
 use crate::area::read_area;
 use crate::event::{Event, Reply};
@@ -39,7 +38,6 @@ impl Machine {
 
     /// Nothing happened yet.
     pub fn new(alloc: Global, sites: &Sites, setup: &Setup) -> Result<Machine, NoMemory>
-        requires { setup.now.cascade ≡ pass_through }
         ensures sized { IfOk result (λ machine. IsSized setup.now sites.now machine) }
         ensures follows { IfOk result (λ machine. Follows setup.now machine start) }
     {

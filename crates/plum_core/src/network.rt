@@ -4,7 +4,6 @@ ghost use Rattle.std.specs.Prelude.{◌≡◌, ℕ, ◌<◌, ◌≤◌, List, []
 ghost use Rattle.plum_base.specs.declared.entry.Entry.{Entry};
 ghost use Rattle.plum_base.specs.declared.packet.Packet.{Packet};
 ghost use Rattle.plum_base.specs.Lane.{lane_of};
-ghost use Rattle.plum_engine.specs.Engine.{pass_through};
 
 use crate::station::{Station, Taken};
 use plum_base::{LaneNo, NoMemory, Packet, Setup, StationNo, lane_of};
@@ -26,7 +25,6 @@ impl Network {
 
     /// So many stations, to which nothing was given.
     pub fn new(alloc: Global, setup: &Setup, count: usize) -> Result<Network, NoMemory>
-        requires { setup.now.cascade ≡ pass_through }
         ensures stand { IfOk result (λ network. StandFor network setup.now (λ _. [])) }
         ensures count { IfOk result (λ network. size_of network ≡ count) }
         ensures start { IfOk result (λ network. HasTaken network setup.now [] []) }

@@ -1,7 +1,6 @@
 //! The machine over a list of events, on one thread.
 
 ghost use Rattle.std.specs.Prelude.{◌≡◌, ◌^◌, ◌<◌, All, IfOk, vec_len};
-ghost use Rattle.plum_engine.specs.Engine.{pass_through};
 ghost use Rattle.plum_core.specs.Machine.{start, AreReplies, NamesExist};
 
 use crate::event::{Event, Reply};
@@ -10,15 +9,12 @@ use plum_base::{NoMemory, Setup, Sites};
 use std::alloc::Global;
 
 /// The replies to the events, one for each, in order.
-///
-/// The setup is one whose cascade passes its input through, until cascades are built.
 pub fn play(
     alloc: Global,
     sites: &Sites,
     setup: &Setup,
     events: Vec<Event>,
 ) -> Result<Vec<Reply>, NoMemory>
-    requires cascade { setup.now.cascade ≡ pass_through }
     requires exist { All (NamesExist setup.now sites.now) events.items }
     requires few { vec_len events < 2 ^ 32 }
     ensures { IfOk result (λ replies.

@@ -3,7 +3,6 @@
 ghost use Rattle.std.specs.Prelude.{◌≡◌, ℕ, List, [], ◌∷◌, ◌++◌, IfOk};
 ghost use Rattle.plum_base.specs.declared.packet.Packet.{Packet};
 ghost use Rattle.plum_base.specs.declared.setup.Setup.{Setup};
-ghost use Rattle.plum_engine.specs.Engine.{pass_through};
 ghost use Rattle.plum_core.specs.Station.{Stands, Gives};
 
 use plum_base::{Entry, Key, LaneNo, NoMemory, Packet, Setup};
@@ -30,7 +29,6 @@ pub enum Taken {
 impl Station {
     /// A station to which nothing was given. It takes all its memory here.
     pub fn new(alloc: Global, setup: &Setup) -> Result<Station, NoMemory>
-        requires { setup.now.cascade ≡ pass_through }
         ensures { (s : ℕ) → IfOk result (λ station. Stands station setup.now s []) }
     {
         Ok(Station {

@@ -28,12 +28,12 @@ module _ (table : LevelsView) (xs : List ℕ) where
 pub value_of-only : OneLevel → OneValue
 unfolding value_of
 value_of-only one_level setup packets value is =
-    value_of_run-only setup.levels (amplitudes_of setup.gain (run_of packets)) one_level value is
+    value_of_run-only setup.levels (amplitudes_of setup (run_of packets)) one_level value is
 
 -- At a lawful table, what the function gives is the station's value.
 pub value_of-is : LevelIs → ValueIs
 unfolding value_of
 value_of-is level_is setup packets lawful =
-    let amplitudes = amplitudes_of setup.gain (run_of packets) in
+    let amplitudes = amplitudes_of setup (run_of packets) in
     IsValue-from_level setup.levels amplitudes _
     (level_is setup.levels.thresholds amplitudes lawful.start)

@@ -1,4 +1,5 @@
 pub mod Run
 pub mod Signal
 pub mod Value
+pub mod Components
 pub mod Engine

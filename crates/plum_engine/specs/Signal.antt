@@ -1,24 +1,55 @@
--- From counts to the squared vector amplitude (the project's own fixed point; the vector amplitude
--- is that of the JMA intensity).
-use Rattle.std.specs.Prelude.{ℕ, ◌+◌, ◌*◌, ◌^◌, ℤ, pos, nat_abs, ◌*ℤ◌, List, map}
+-- From counts to the squared vector amplitude, over a whole run (the project's own fixed point; the
+-- vector amplitude of the three filtered components is that of the JMA intensity).
+use Rattle.std.specs.Prelude.{◌≡◌, ℕ, ◌+◌, ◌*◌, ◌^◌, ◌<◌, ◌≤◌, ℤ, pos, nat_abs, ◌*ℤ◌, List, map}
+use Rattle.std.specs.Prelude.{length, slice_index}
+use Rattle.std.specs.List.{range_with_len}
 use Rattle.std.specs.Int.{int_div_euclid}
 use Rattle.plum_base.specs.declared.setup.Gain.{Gain}
+use Rattle.plum_base.specs.declared.setup.Setup.{Setup}
 use Rattle.plum_base.specs.declared.wave.Sample.{Sample}
-use Rattle.plum_filter.specs.Stage.{clamped}
+use Rattle.plum_filter.specs.Stage.{clamped, term, cascade_output}
 
 -- The gain rule: count * g / 2^h, rounded down and clamped. (At a positive divisor Euclid's
 -- quotient is the one rounded down.)
 abbrev pub signal_of : Gain → ℤ → ℤ
 signal_of gain count = clamped (int_div_euclid (count *ℤ pos gain.g) (pos (2 ^ gain.h)))
 
+-- The signal of a component over a run: the gain rule at each index. A component is the x, the y or
+-- the z of each sample.
+abbrev pub signals_of : Gain → (Sample → ℤ) → List Sample → List ℤ
+signals_of gain component run = map (λ s. signal_of gain (component s)) run
+
+-- the component after the setup's cascade
+abbrev pub filtered : Setup → (Sample → ℤ) → List Sample → List ℤ
+filtered setup component run = cascade_output setup.cascade (signals_of setup.gain component run)
+
+-- the square of a number
 abbrev pub square : ℤ → ℕ
 square z = nat_abs z * nat_abs z
 
--- the squared vector amplitude of a sample, where the cascade passes its input through
-abbrev pub amplitude_of : Gain → Sample → ℕ
-amplitude_of gain s =
-    square (signal_of gain s.x) + square (signal_of gain s.y) + square (signal_of gain s.z)
+-- The squared vector amplitude at an index of a run: the sum of the squares of the three filtered
+-- components there.
+abbrev pub amplitude_at : Setup → List Sample → ℕ → ℕ
+amplitude_at setup run n =
+    square (term (filtered setup (λ s. s.x) run) n)
+    + square (term (filtered setup (λ s. s.y) run) n)
+    + square (term (filtered setup (λ s. s.z) run) n)
 
 -- the squared vector amplitude at each index of a run
-abbrev pub amplitudes_of : Gain → List Sample → List ℕ
-amplitudes_of gain run = map (amplitude_of gain) run
+abbrev pub amplitudes_of : Setup → List Sample → List ℕ
+amplitudes_of setup run = map (amplitude_at setup run) (range_with_len 0 (length run))
+
+-- There are as many as the run has samples ..
+abbrev pub AsManyAmplitudes : Type 0
+AsManyAmplitudes = (setup : Setup) (run : List Sample)
+    → length (amplitudes_of setup run) ≡ length run
+
+-- .. and at each index stands the one of that index.
+abbrev pub AmplitudeAtEach : Type 0
+AmplitudeAtEach = (setup : Setup) (run : List Sample) (n : ℕ) → n < length run
+    → slice_index (amplitudes_of setup run) n ≡ amplitude_at setup run n
+
+-- None is above three squares of the greatest term, so each fits 64 bits.
+abbrev pub AmplitudesAreBounded : Type 0
+AmplitudesAreBounded = (setup : Setup) (run : List Sample) (n : ℕ) → n < length run
+    → slice_index (amplitudes_of setup run) n ≤ 3 * 2 ^ 60

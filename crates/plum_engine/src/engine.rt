@@ -1,50 +1,46 @@
 //! A station's engine.
 
-ghost use Rattle.std.specs.Prelude.{◌≡◌, ℕ, Bool, List, [], ◌∷◌, ◌++◌, IfOk};
+ghost use Rattle.std.specs.Prelude.{◌≡◌, Bool, List, [], ◌∷◌, ◌++◌, IfOk};
 ghost use Rattle.plum_base.specs.declared.wave.Sample.{Sample};
 ghost use Rattle.plum_base.specs.declared.setup.Setup.{Setup};
-ghost use Rattle.plum_base.specs.Levels.{LevelsView};
-ghost use Rattle.plum_base.specs.Setup.{IsGain};
-ghost use Rattle.plum_level.specs.Window as windows;
 ghost use Rattle.plum_engine.specs.Run.{samples_since_gap};
 ghost use Rattle.plum_engine.specs.Signal.{amplitudes_of};
 ghost use Rattle.plum_engine.specs.Value.{IsValue};
-ghost use Rattle.plum_engine.specs.Engine.{pass_through, StandsFor};
+ghost use Rattle.plum_engine.specs.Engine.{HoldsRun, StandsFor};
 
-use crate::signal::amplitude;
-use plum_base::{Gain, NoMemory, Sample, Setup, Tenths, Wave};
+use crate::components::Components;
+use plum_base::{NoMemory, Sample, Setup, Tenths, Wave};
 use plum_level::Window;
 use std::alloc::Global;
 use std::marker::Model;
 
-/// The engine of one station. Its window is that of the squared amplitudes since the last gap.
+/// The engine of one station. Its components are filtered, and its window is filled, from the last
+/// gap on.
 #[derive(Drop)]
 pub struct Engine {
-    gain: Gain,
+    components: Components,
     base: Tenths,
     window: Window,
 }
 
 impl Model for Engine {
-    ghost use Rattle.plum_base.specs.Setup.{IsGain};
     ghost use Rattle.plum_base.specs.Levels.{IsFactor};
     ghost use Rattle.plum_engine.specs.Engine.{EngineView};
 
     ghost Value = { EngineView };
 
-    ghost view = { λ e. record { gain = e.gain; base = e.base; window = e.window } };
+    ghost view = { λ e. record { components = e.components; base = e.base; window = e.window } };
 
-    ghost invariant = { λ e. IsGain e.gain.g e.gain.h × IsFactor e.base };
+    ghost invariant = { λ e. IsFactor e.base };
 }
 
 impl Engine {
     /// The engine of a station to which nothing was given. It takes all its memory here.
     pub fn new(alloc: Global, setup: &Setup) -> Result<Engine, NoMemory>
-        requires { setup.now.cascade ≡ pass_through }
         ensures { IfOk result (λ e. StandsFor e setup.now []) }
     {
         Ok(Engine {
-            gain: setup.gain,
+            components: Components::new(setup),
             base: setup.levels.base(),
             window: Window::new(alloc, &setup.levels)?,
         })
@@ -59,7 +55,7 @@ impl Engine {
         ensures value { (setup : Setup) (given : List (Bool × List Sample))
             → StandsFor self.old setup given
             → let run = samples_since_gap (given ++ (fresh, wave.now) ∷ [])
-            in IsValue setup.levels (amplitudes_of setup.gain run) result }
+            in IsValue setup.levels (amplitudes_of setup run) result }
     {
         self.take_in(fresh, wave);
         self.value()
@@ -72,30 +68,45 @@ impl Engine {
             → StandsFor self.new setup (given ++ (fresh, wave.now) ∷ []) }
     {
         if fresh {
-            self.window.reset();
+            self.reset();
         }
-        append(&mut self.window, self.gain, wave.as_slice());
+        self.append(wave.as_slice());
+    }
+
+    /// Forgets the run.
+    fn reset(&mut self)
+        ensures { (setup : Setup) (run : List Sample)
+            → HoldsRun self.old setup run → HoldsRun self.new setup [] }
+    {
+        self.components.reset();
+        self.window.reset();
+    }
+
+    /// Adds samples to the run.
+    fn append(&mut self, samples: &[Sample])
+        ensures { (setup : Setup) (run : List Sample)
+            → HoldsRun self.old setup run → HoldsRun self.new setup (run ++ samples.now) }
+    {
+        for sample in samples {
+            self.push(*sample);
+        }
+    }
+
+    /// Adds a sample to the run.
+    fn push(&mut self, sample: Sample)
+        ensures { (setup : Setup) (run : List Sample)
+            → HoldsRun self.old setup run → HoldsRun self.new setup (run ++ sample ∷ []) }
+    {
+        let amplitude = self.components.amplitude(sample);
+        self.window.push(amplitude);
     }
 
     /// The tenths that the level of the run stands for.
     fn value(&self) -> Option<Tenths>
-        ensures { (setup : Setup) (given : List (Bool × List Sample))
-            → StandsFor self.now setup given
-            → IsValue setup.levels (amplitudes_of setup.gain (samples_since_gap given)) result }
+        ensures { (setup : Setup) (run : List Sample)
+            → HoldsRun self.now setup run → IsValue setup.levels (amplitudes_of setup run) result }
     {
         let level = self.window.level()?;
         Some(Tenths(self.base.0 + level as i16))
-    }
-}
-
-/// Adds the squared amplitudes of the samples to a window.
-fn append(window: &mut Window, gain: Gain, samples: &[Sample])
-    requires { IsGain gain.g gain.h }
-    ensures { (table : LevelsView) (amplitudes : List ℕ)
-        → windows.StandsFor window.old table amplitudes
-        → windows.StandsFor window.new table (amplitudes ++ amplitudes_of gain samples.now) }
-{
-    for sample in samples {
-        window.push(amplitude(gain, *sample));
     }
 }

@@ -10,6 +10,7 @@ pub mod ToldSections
 pub mod ToldReplay
 pub mod PartTexts
 pub mod Marks
+pub mod Numbered
 pub mod OneMore
 pub mod Beginnings
 pub mod Writings

@@ -1,28 +1,15 @@
 -- The texts of a run with one segment or one mark more, and the lines of a mark one by one.
 use Rattle.std.proofs.Common.{◌≡◌, ℕ, ◌+◌, ◌<◌, List, [], ◌∷◌, ◌++◌, length, map, drop, zip, get_or}
-use Rattle.std.proofs.Common.{Bool, Option, Some, None, Iter, refl, sym, ap, ap₂, ◌∙◌, arith}
+use Rattle.std.proofs.Common.{min, Option, Some, None, refl, sym, ap, ap₂, ◌∙◌, arith}
 use Rattle.std.proofs.Common.{append-nil, append_assoc, add-zero}
-use Rattle.std.proofs.iter.Yields.{fronts}
 use Rattle.std.proofs.lemmas.Grind.{flat_map-append}
-use Rattle.std.proofs.lemmas.Iterator.{YieldsList, YieldsList-from_slice, YieldsList-from_zip, zips}
-use Rattle.std.proofs.lemmas.Iterator.Consumers.{YieldsList-from_filter, YieldsList-turn}
-use Rattle.std.proofs.lemmas.Iterator.Consumers.{YieldsList-end}
-use Rattle.std.proofs.lemmas.List.{length-map, length-append, length_push, drop_more, drop_all}
+use Rattle.std.proofs.lemmas.List.{length-map, length-append, drop_more, drop_all}
 use Rattle.std.proofs.lemmas.List.Sums.{sum_by_push}
 use Rattle.std.proofs.lemmas.Option.{slice_get_within, get_or_from_slice_get}
 use Rattle.std.proofs.lemmas.Simd.{map-map}
-use Rattle.std.specs.declared.iter.Filter.{Filter}
-use Rattle.std.specs.declared.iter.Zip.{Zip}
-use Rattle.std.specs.Fn.{CalledAt}
-use Rattle.std.specs.Iterator.{Yields}
-use Rattle.std.specs.Iterator.Adapters.{filter_source, filter_callee, filter_steps}
-use Rattle.std.specs.Iterator.Adapters.{zip_first, zip_second}
+use Rattle.std.proofs.lemmas.Slice.Zip.{length-zip, get_or-zip}
 use Rattle.std.specs.List.{flat_map}
 use Rattle.std.specs.Prelude.{slice_get}
-use Rattle.std.specs.Slice.Iter.{iter_rest}
-use Rattle.std.specs.Str.{bytes_eq}
-use denote.Param.Members.{Mut}
-use denote.Ref.{Bor}
 use Rattle.plum_base.specs.declared.answers.Reading.{Reading}
 use Rattle.plum_base.specs.declared.entry.Entry.{Entry}
 use Rattle.plum_base.specs.declared.note.Note.{Note}
@@ -30,7 +17,7 @@ use Rattle.plum_base.specs.declared.numbers.Tenths.{Tenths}
 use Rattle.plum_base.specs.declared.rules.Alert.{Alert}
 use Rattle.plum_base.specs.declared.sites.StationSite.{StationSite}
 use Rattle.plum_base.specs.declared.sites.TargetSite.{TargetSite}
-use Rattle.plum_base.specs.Sites.{areas_of, targets_of}
+use Rattle.plum_base.specs.Sites.{areas_of}
 use Rattle.plum_text.specs.declared.lines.OutLine.{OutLine}
 use Rattle.plum_text.specs.declared.lines.OutLine.TheVariants.{Tail}
 use Rattle.plum_text.specs.Lines.{journal_line, out_line}
@@ -183,49 +170,38 @@ area_more targets m readings alerts a area reading out new whole rs others named
 abbrev pub answers_left : ℕ → List (TargetSite × Option Tenths) → ℕ → List OutLine
 answers_left m asked n = map (λ a. answer_line m a.0 a.1) (drop n asked)
 
--- A loop over the targets of an area, each beside its answer, has yielded these pairs.
-module _ {F : Type 0} {g : Mut F (Bor (Bor TargetSite) × Unit {0}) Bool}
-    (s t u : Zip (Filter (Iter TargetSite) F) (Iter (Option Tenths)))
-    (r : Option (Bor TargetSite × Bor (Option Tenths)))
-    (yielded : List (Bor TargetSite × Bor (Option Tenths)))
-    (yielded_by : Yields (zips (filter_steps fronts g) fronts) s yielded t)
-    (steps : zips (filter_steps fronts g) fronts t r u)
-    (area : List ℕ) (targets : List TargetSite) (answers : List (Option Tenths)) (f : F)
-    (all : iter_rest (filter_source (zip_first s)) ≡ targets)
-    (closure : filter_callee (zip_first s) ≡ f)
-    (beside : iter_rest (zip_second s) ≡ answers)
-    (test : (x : Bor TargetSite) (b : Bool) (q : F) → CalledAt g f x b q
-    → (q ≡ f) × (b ≡ bytes_eq x.now.area area)) where
+module _ (m : ℕ) (those : List TargetSite) (answers : List (Option Tenths)) (n : ℕ) where
   abbrev asked : List (TargetSite × Option Tenths)
-  asked = zip (targets_of area targets) answers
-
-  gives : YieldsList (zips (filter_steps fronts g) fronts) (λ p. (p.0.now, p.1.now)) s asked
-  gives = YieldsList-from_zip (YieldsList-from_filter g (λ (t : TargetSite). bytes_eq t.area area)
-      (YieldsList-from_slice targets all) closure test) (YieldsList-from_slice answers beside)
+  asked = zip those answers
 
   -- an answer is written, and the others are left
-  pub answer_more : (m : ℕ) (out new whole : List ℕ) (p : Bor TargetSite × Bor (Option Tenths))
-      → r ≡ Some p → new ≡ out ++ out_line (answer_line m p.0.now p.1.now)
-      → out ++ flat_map out_line (answers_left m asked (length yielded)) ≡ whole
-      → new ++ flat_map out_line (answers_left m asked (length (yielded ++ p ∷ []))) ≡ whole
-  answer_more m out new whole p some written so_far =
-      let a : TargetSite × Option Tenths = (p.0.now, p.1.now) in
-      let n = length yielded in
-      let turn = YieldsList-turn gives yielded t yielded_by r u p some steps in
+  pub answer_more : (site : TargetSite) (answer : Option Tenths) (out new whole : List ℕ)
+      → slice_get those n ≡ Some site → slice_get answers n ≡ Some answer
+      → new ≡ out ++ out_line (answer_line m site answer)
+      → out ++ flat_map out_line (answers_left m asked n) ≡ whole
+      → new ++ flat_map out_line (answers_left m asked (n + 1)) ≡ whole
+  answer_more site answer out new whole is_site is_answer written so_far =
+      let pair : TargetSite → Option Tenths → TargetSite × Option Tenths = λ s c. (s, c) in
+      let a : TargetSite × Option Tenths = (site, answer) in
+      let listed : n < length those = slice_get_within those n site is_site in
+      let answered : n < length answers = slice_get_within answers n answer is_answer in
+      let here : get_or asked n a ≡ a =
+      get_or-zip those answers n a listed answered
+      ∙ ap₂ pair (get_or_from_slice_get those n site site is_site)
+      (get_or_from_slice_get answers n answer answer is_answer) in
       let first : drop n asked ≡ a ∷ drop (n + 1) asked =
-      drop_more asked n a turn.0 ∙ ap (λ a. a ∷ drop (n + 1) asked) (sym turn.1) in
-      let line = answer_line m a.0 a.1 in
-      ap (λ n. new ++ flat_map out_line (answers_left m asked n)) (length_push yielded p)
-      ∙ lines_more (line ∷ []) (answers_left m asked (n + 1)) (answers_left m asked n) out new whole
+      drop_more asked n a (omega (arith, length-zip those answers))
+      ∙ ap (λ a. a ∷ drop (n + 1) asked) here in
+      let line = answer_line m site answer in
+      lines_more (line ∷ []) (answers_left m asked (n + 1)) (answers_left m asked n) out new whole
       (ap (map (λ a. answer_line m a.0 a.1)) first)
       (written ∙ ap (λ text. out ++ text) (sym (append-nil (out_line line)))) so_far
 
   -- no answer is left
-  pub no_answer_more : (m : ℕ) (out whole : List ℕ) → r ≡ None
-      → out ++ flat_map out_line (answers_left m asked (length yielded)) ≡ whole → out ≡ whole
-  no_answer_more m out whole none so_far =
-      let all = (YieldsList-end gives yielded t yielded_by r u none steps).1 in
-      let left : drop (length yielded) asked ≡ [] =
-      drop_all (length yielded) asked (omega arith) in
+  pub no_answer_more : (out whole : List ℕ) → n ≡ min (length those) (length answers)
+      → out ++ flat_map out_line (answers_left m asked n) ≡ whole → out ≡ whole
+  no_answer_more out whole is so_far =
+      let left : drop n asked ≡ [] =
+      drop_all n asked (omega (arith, length-zip those answers)) in
       sym (append-nil out) ∙ ap (λ asked. out
       ++ flat_map out_line (map (λ a. answer_line m a.0 a.1) asked)) (sym left) ∙ so_far

@@ -16,7 +16,7 @@ use Rattle.plum_base.specs.declared.packet.RefusedBody.{RefusedBody}
 use Rattle.plum_base.specs.declared.rules.Rules.{Rules}
 use Rattle.plum_base.specs.declared.setup.Setup.{Setup}
 use Rattle.plum_base.specs.declared.sites.TargetSite.{TargetSite}
-use Rattle.plum_base.specs.Levels.{IsFactor}
+use Rattle.plum_base.specs.Levels.{IsFactor, IsLevelTable}
 use Rattle.plum_base.specs.Name.{IsName}
 use Rattle.plum_base.specs.Sites.{SitesView, AreLawful, IsPlace, areas_of, targets_of}
 use Rattle.plum_core.specs.Keys.{kept_after}
@@ -27,7 +27,6 @@ use Rattle.plum_packet.specs.Counts.{counts_after, counts_in}
 use Rattle.plum_packet.specs.Laws.{HoldEachBody, TailIsShort}
 use Rattle.plum_packet.specs.Segments.{Decoded, packets_in, refused_in}
 use Rattle.plum_core.specs.Transcript.{Transcript, IsReadingAt, IsLegal, journal_of, entries_up_to}
-use Rattle.plum_core.specs.Laws.{IsPlain}
 use Rattle.plum_text.specs.Laws.{CanBeTold, SectionsCanBeTold}
 use Rattle.plum_text.specs.Texts.{Section}
 use Rattle.plum_replay.specs.Laws.{AreNamed}
@@ -200,9 +199,10 @@ module _ (finds : FindsNear) (setup : Setup) (sites : SitesView)
       (omega (arith, long, length-map sections counts_in_section, length-counts [] segments))
       (omega (arith, sum)) short (shown_each targets sections own refused read alerts)
 
-module _ (hold : HoldEachBody) (setup : Setup) (sites : SitesView) (plain : IsPlain setup)
-    (lawful : AreLawful sites.stations sites.targets) (capture journal output : List ℕ)
-    (bytes : AreBytes capture) (few : ¬ HasMoreRecords capture MOST_RECORDS)
+module _ (hold : HoldEachBody) (setup : Setup) (sites : SitesView)
+    (table : IsLevelTable setup.levels) (lawful : AreLawful sites.stations sites.targets)
+    (capture journal output : List ℕ) (bytes : AreBytes capture)
+    (few : ¬ HasMoreRecords capture MOST_RECORDS)
     (r : IsReplay setup sites capture journal output) where
   -- The packets and the refused bodies of the capture can be told.
   counted_capture : CanBeCounted sites.stations r.segments
@@ -212,7 +212,7 @@ module _ (hold : HoldEachBody) (setup : Setup) (sites : SitesView) (plain : IsPl
   -- So can the journal of a replay.
   pub replay_told : CanBeTold sites.stations r.transcript.parts
   replay_told =
-      journal_told sites.stations setup r.segments r.transcript.parts plain.table counted_capture
+      journal_told sites.stations setup r.segments r.transcript.parts table counted_capture
       r.legal.valid r.legal.complete
 
   -- So can its output, where the targets have names.

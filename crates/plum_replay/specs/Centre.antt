@@ -20,6 +20,7 @@ use Rattle.plum_alert.specs.Desk.{StandsFor as DeskStandsFor}
 use Rattle.plum_text.specs.Texts.{Section, journal_text, totals_of}
 use Rattle.plum_replay.specs.declared.centre.Centre.{Centre}
 use Rattle.plum_replay.specs.declared.centre.Told.{Told}
+use Rattle.plum_replay.specs.Areas.{AreByArea}
 use Rattle.plum_replay.specs.Parts.{sections_text}
 use Rattle.plum_replay.specs.Sections.{of_area, AreSections}
 
@@ -40,10 +41,12 @@ pub record AreNext (rules : Rules) (given : ℕ → List Reading) (readings : Li
   pub each : (a : ℕ) → alerts_of rules (given_with given readings a)
       ≡ alerts_of rules (given a) ++ option_to_list (slice_get alerts a)
 
--- A centre of these sites: it has their stations, their board, and a desk for each area.
+-- A centre of these sites: it has their stations, their board, their targets by area, and a desk
+-- for each area.
 pub record IsCentreOf (centre : Centre) (sites : SitesView) : Type 0 where
   pub size : size_of centre.network ≡ length sites.stations
   pub board : centre.board.sites ≡ sites
+  pub by_area : AreByArea sites.targets centre.by_area.items
   pub desks : length centre.desks.items ≡ length (areas_of sites.targets)
 
 -- A centre of this setup and these sites replayed these segments, decoded: this is its transcript

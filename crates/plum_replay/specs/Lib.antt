@@ -2,6 +2,7 @@ pub mod Sections
 pub mod Parts
 pub mod Faults
 pub mod Captured
+pub mod Areas
 pub mod Centre
 pub mod Taking
 pub mod Replayed

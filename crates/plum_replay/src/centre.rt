@@ -14,23 +14,25 @@ ghost use Rattle.plum_core.specs.Station.{HasTaken, size_of};
 ghost use Rattle.plum_packet.specs.Reading.{MOST_RECORDS};
 ghost use Rattle.plum_replay.specs.Taking.{TakesPackets};
 
+use crate::areas::targets_by_area;
 use crate::desks::{new_desks, next_alerts};
 use crate::journal::put_notes;
 use crate::reading::read_areas;
 use crate::section::{Section, put_section};
 use crate::totals::Totals;
 use plum_alert::Desk;
-use plum_base::{Bytes, Counts, Entry, NoMemory, Note, Notes, Packet, Setup, Sites};
+use plum_base::{Bytes, Counts, Entry, NoMemory, Note, Notes, Packet, Setup, Sites, TargetNo};
 use plum_board::Board;
 use plum_core::{Network, Taken, histories, legal_transcripts};
 use plum_packet::{Segment, bodies_are_counted};
 use std::alloc::Global;
 
-/// The stations, the board, a desk for each area, and what was counted so far.
+/// The stations, the board, for each area its targets and a desk, and what was counted so far.
 #[derive(Drop)]
 pub struct Centre {
     network: Network,
     board: Board,
+    by_area: Vec<Vec<TargetNo>>,
     desks: Vec<Desk>,
     segments: u32,
     counts: Counts,
@@ -123,7 +125,6 @@ fn sum_of(a: &Counts, b: &Counts) -> Counts
 
 impl Centre {
     ghost use Rattle.plum_base.specs.declared.setup.Setup.{Setup};
-    ghost use Rattle.plum_core.specs.Laws.{IsPlain};
     ghost use Rattle.plum_packet.specs.Reading.{HoldsBodies, bodies_in};
     ghost use Rattle.plum_packet.specs.Segments.{Decoded};
     ghost use Rattle.plum_text.specs.Texts.{Section};
@@ -132,10 +133,9 @@ impl Centre {
     ghost use Rattle.plum_replay.specs.Centre.{no_transcript};
     ghost use Rattle.plum_replay.specs.Replayed.{counts_in_all};
 
-    /// A centre that replayed nothing. It takes the memory of its stations, its board and its desks
-    /// here.
+    /// A centre that replayed nothing. It takes the memory of its stations, its board, its targets
+    /// by area and its desks here.
     pub fn new(alloc: Global, sites: &Sites, setup: &Setup) -> Result<Centre, NoMemory>
-        requires plain { IsPlain setup.now }
         ensures of { IfOk result (λ centre. IsCentreOf centre sites.now) }
         ensures nothing { IfOk result (λ centre. (centre.segments ≡ 0)
             × (centre.counts.bodies ≡ 0)) }
@@ -147,6 +147,7 @@ impl Centre {
         Ok(Centre {
             network: Network::new(alloc, setup, sites.stations().len())?,
             board: Board::new(alloc, sites)?,
+            by_area: targets_by_area(alloc, sites)?,
             desks: new_desks(alloc, &setup.rules, sites.areas())?,
             segments: 0,
             counts: Counts {
@@ -182,6 +183,7 @@ impl Centre {
         legal_transcripts();
         bodies_are_counted();
         let mark = self.segments + 1;
+        let by_area = self.by_area.as_slice();
         let (packets, refused) = (segment.packets.len() as u32, segment.refused.len() as u32);
         let mut notes = Notes::new(alloc)?;
         take_packets(
@@ -199,7 +201,7 @@ impl Centre {
             self.counts.kept,
             notes.as_slice(),
         )?;
-        let readings = read_areas(alloc, sites, &self.board)?;
+        let readings = read_areas(alloc, &self.board, by_area)?;
         let alerts = next_alerts(alloc, &mut self.desks, readings.as_slice())?;
         let told = Section {
             counts,
@@ -208,7 +210,7 @@ impl Centre {
             alerts,
         };
         let mut section = Bytes::new(alloc)?;
-        put_section(&mut section, sites, mark, &told)?;
+        put_section(&mut section, sites, by_area, mark, &told)?;
         self.segments = mark;
         self.counts = sum_of(&self.counts, &counts);
         Ok(Told { journal, section })

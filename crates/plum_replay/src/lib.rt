@@ -4,6 +4,7 @@
 //! in them where a fault ends the work. It must not know how words, files and statuses are spelled.
 #![tactic(auto)]
 
+mod areas;
 mod capture;
 mod centre;
 mod desks;

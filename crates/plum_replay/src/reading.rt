@@ -1,28 +1,28 @@
 //! The readings at a mark.
 
-ghost use Rattle.std.specs.Prelude.{◌≡◌, ◌<◌, ◌^◌, ◌-◌, ℕ, List, length, IfOk};
+ghost use Rattle.std.specs.Prelude.{◌≡◌, ◌<◌, ◌^◌, ℕ, List, length, All, IfOk};
 ghost use Rattle.plum_base.specs.declared.entry.Entry.{Entry};
-ghost use Rattle.plum_base.specs.Sites.{SitesView, areas_of};
+ghost use Rattle.plum_base.specs.Sites.{SitesView, areas_of, targets_of};
 ghost use Rattle.plum_board.specs.Board.{StandsFor};
 ghost use Rattle.plum_core.specs.Transcript.{IsReadingOver, AreReadingsOver};
+ghost use Rattle.plum_replay.specs.Areas.{AreNumbersOf, AreByArea};
 
-use plum_base::{Answers, AreaNo, Name, NoMemory, Reading, Sites, TargetNo};
+use plum_base::{Answers, NoMemory, Reading, TargetNo};
 use plum_board::Board;
 use std::alloc::Global;
 
-/// The reading of an area: how many entries the board has, and the prediction at each target of the
-/// area, in file order.
-fn read_area(alloc: Global, sites: &Sites, board: &Board, area: &Name) -> Result<Reading, NoMemory>
-    requires same_sites { board.now.sites ≡ sites.now }
-    ensures { (entries : List Entry) → StandsFor board.now sites.now entries
-        → length entries < 2 ^ 64
-        → IfOk result (λ reading. IsReadingOver sites.now entries area.now reading) }
+/// The reading of an area with these targets: how many entries the board has, and the prediction at
+/// each target.
+fn read_area(alloc: Global, board: &Board, targets: &[TargetNo]) -> Result<Reading, NoMemory>
+    requires exist { All (λ t. t.0 < length board.now.sites.targets) targets.now }
+    ensures { (sites : SitesView) (entries : List Entry) (area : List ℕ)
+        → StandsFor board.now sites entries → length entries < 2 ^ 64
+        → AreNumbersOf sites.targets targets.now (targets_of area sites.targets)
+        → IfOk result (λ reading. IsReadingOver sites entries area reading) }
 {
     let mut answers = Answers::new(alloc)?;
-    for (t, target) in sites.targets().iter().enumerate() {
-        if target.area == *area {
-            answers.push(board.predict(TargetNo(t as u16)))?;
-        }
+    for target in targets {
+        answers.push(board.predict(*target))?;
     }
     Ok(Reading {
         front: board.count(),
@@ -30,19 +30,22 @@ fn read_area(alloc: Global, sites: &Sites, board: &Board, area: &Name) -> Result
     })
 }
 
-/// A reading for each area, in order.
-pub fn read_areas(alloc: Global, sites: &Sites, board: &Board) -> Result<Vec<Reading>, NoMemory>
-    requires same_sites { board.now.sites ≡ sites.now }
+/// A reading for each area, in order; these are the targets of each.
+pub fn read_areas(
+    alloc: Global,
+    board: &Board,
+    by_area: &[Vec<TargetNo>],
+) -> Result<Vec<Reading>, NoMemory>
+    requires by_area { AreByArea board.now.sites.targets by_area.now }
     ensures count { IfOk result (λ readings.
-        length readings.items ≡ length (areas_of sites.now.targets)) }
-    ensures over { (entries : List Entry) → StandsFor board.now sites.now entries
+        length readings.items ≡ length (areas_of board.now.sites.targets)) }
+    ensures over { (sites : SitesView) (entries : List Entry) → StandsFor board.now sites entries
         → length entries < 2 ^ 64
-        → IfOk result (λ readings. AreReadingsOver sites.now entries readings.items) }
+        → IfOk result (λ readings. AreReadingsOver sites entries readings.items) }
 {
     let mut readings = Vec::new(alloc);
-    for a in 0..sites.areas() {
-        let area = sites.area_name(AreaNo(a));
-        readings.push(read_area(alloc, sites, board, &area)?)?;
+    for targets in by_area {
+        readings.push(read_area(alloc, board, targets.as_slice())?)?;
     }
     Ok(readings)
 }

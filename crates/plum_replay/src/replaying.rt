@@ -6,7 +6,6 @@ ghost use Rattle.std.specs.Prelude.{IsErrOf};
 ghost use Rattle.std.specs.List.{AllZip};
 ghost use Rattle.plum_base.specs.Counts.{AddUp};
 ghost use Rattle.plum_base.specs.declared.setup.Setup.{Setup};
-ghost use Rattle.plum_core.specs.Laws.{IsPlain};
 ghost use Rattle.plum_host.specs.Counting.{CountsNothing};
 ghost use Rattle.plum_host.specs.Frames.{LeavesOtherInputs};
 ghost use Rattle.plum_host.specs.declared.host.In.{In};
@@ -78,16 +77,12 @@ fn put_segments<H: Host>(
 /// Reads the capture whole, and replays it segment by segment: the journal lines of a segment are
 /// written, and behind them the section of the mark before it; at last the section of the last
 /// mark, the tail and the totals. The journal is opened before anything is read.
-///
-/// The setup is one whose cascade passes its input through, until cascades are built.
 pub fn replay<H: Host>(
     alloc: Global,
     sites: &Sites,
     setup: &Setup,
     host: &mut H,
 ) -> Result<Totals, ReplayFault>
-    requires plain { IsPlain setup.now }
-
     // The two texts of one legal transcript are appended, and the capture is read to its end.
     ensures texts { IfOk result (λ totals. ReplaysCapture setup.now sites.now totals
         (H.told host.old) (H.told host.new)) }

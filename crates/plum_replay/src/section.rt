@@ -1,18 +1,21 @@
 //! What the output tells at a mark, and in the end.
 
-ghost use Rattle.std.specs.Prelude.{◌≡◌, ◌++◌, ◌∷◌, [], map, length, OnOk};
+ghost use Rattle.std.specs.Prelude.{◌≡◌, ◌<◌, ◌++◌, ◌∷◌, List, [], map, length, All, OnOk};
 ghost use Rattle.std.specs.List.{flat_map};
+ghost use Rattle.plum_base.specs.declared.sites.TargetSite.{TargetSite};
 ghost use Rattle.plum_base.specs.Sites.{areas_of, targets_of};
 ghost use Rattle.plum_text.specs.Lines.{out_line};
 ghost use Rattle.plum_text.specs.declared.lines.OutLine.TheVariants.{Refused, Tail};
 ghost use Rattle.plum_text.specs.Texts.{answer_line, answer_lines, area_lines, areas_lines};
 ghost use Rattle.plum_text.specs.Texts.{alert_lines, totals_line};
+ghost use Rattle.plum_replay.specs.Areas.{AreNumbersOf, AreByArea};
 ghost use Rattle.plum_replay.specs.Parts.{section_text};
 ghost use Rattle.plum_replay.specs.Replayed.{counts_in_all};
 
 use crate::totals::Totals;
 use plum_base::{
-    Alert, AreaNo, Bytes, Counts, Name, NoMemory, Reading, RefusedBody, Sites, TargetSite, Tenths,
+    Alert, AreaNo, Bytes, Counts, Name, NoMemory, Reading, RefusedBody, Sites, TargetNo,
+    TargetSite, Tenths,
 };
 use plum_scale::class_of;
 use plum_text::{OutLine, write_out};
@@ -84,20 +87,21 @@ fn answer_line(m: u32, target: &TargetSite, value: Option<Tenths>) -> OutLine
     }
 }
 
-/// A line for each target of the area, in file order.
+/// A line for each of these targets, in order. They are numbered as in `sites`, all targets.
 fn put_answers(
     out: &mut Bytes,
     m: u32,
-    area: &Name,
-    targets: &[TargetSite],
+    sites: &[TargetSite],
+    targets: &[TargetNo],
     answers: &[Option<Tenths>],
 ) -> Result<(), NoMemory>
-    ensures { OnOk result (out.new ≡ out.old
-        ++ flat_map out_line (answer_lines m (targets_of area.now targets.now) answers.now)) }
+    requires exist { All (λ t. t.0 < length sites.now) targets.now }
+    ensures { (those : List TargetSite) → AreNumbersOf sites.now targets.now those
+        → OnOk result (out.new ≡ out.old ++ flat_map out_line (answer_lines m those answers.now)) }
 {
-    let targets = targets.iter().filter(|t| t.area == *area);
-    for (target, answer) in targets.zip(answers) {
-        write_out(out, &answer_line(m, target, *answer))?;
+    for (target, answer) in targets.iter().zip(answers) {
+        let site = &sites[target.0 as usize];
+        write_out(out, &answer_line(m, site, *answer))?;
     }
     Ok(())
 }
@@ -118,17 +122,20 @@ fn put_alert(out: &mut Bytes, m: u32, area: &Name, alert: Option<Alert>) -> Resu
     Ok(())
 }
 
-/// The reading of an area, its answers, and its alert.
+/// The reading of an area, its answers, and its alert. Its targets are numbered as in `sites`, all
+/// targets.
 fn put_area(
     out: &mut Bytes,
     m: u32,
     area: &Name,
-    targets: &[TargetSite],
+    sites: &[TargetSite],
+    targets: &[TargetNo],
     reading: &Reading,
     alert: Option<Alert>,
 ) -> Result<(), NoMemory>
+    requires targets { AreNumbersOf sites.now targets.now (targets_of area.now sites.now) }
     ensures { OnOk result (out.new ≡ out.old
-        ++ flat_map out_line (area_lines targets.now m area.now reading.now alert)) }
+        ++ flat_map out_line (area_lines sites.now m area.now reading.now alert)) }
 {
     let line = OutLine::Reading {
         m,
@@ -136,7 +143,7 @@ fn put_area(
         front: reading.front,
     };
     write_out(out, &line)?;
-    put_answers(out, m, area, targets, reading.answers.as_slice())?;
+    put_answers(out, m, sites, targets, reading.answers.as_slice())?;
     put_alert(out, m, area, alert)
 }
 
@@ -144,10 +151,12 @@ fn put_area(
 fn put_areas(
     out: &mut Bytes,
     sites: &Sites,
+    by_area: &[Vec<TargetNo>],
     m: u32,
     readings: &[Reading],
     alerts: &[Option<Alert>],
 ) -> Result<(), NoMemory>
+    requires by_area { AreByArea sites.now.targets by_area.now }
     requires readings { length readings.now ≡ length (areas_of sites.now.targets) }
     requires alerts { length alerts.now ≡ length (areas_of sites.now.targets) }
     ensures { OnOk result (out.new ≡ out.old
@@ -157,7 +166,16 @@ fn put_areas(
     for a in 0..sites.areas() {
         let area = sites.area_name(AreaNo(a));
         let i = a as usize;
-        put_area(out, m, &area, sites.targets(), &readings[i], alerts[i])?;
+        let targets = by_area[i].as_slice();
+        put_area(
+            out,
+            m,
+            &area,
+            sites.targets(),
+            targets,
+            &readings[i],
+            alerts[i],
+        )?;
     }
     Ok(())
 }
@@ -166,9 +184,11 @@ fn put_areas(
 pub fn put_section(
     out: &mut Bytes,
     sites: &Sites,
+    by_area: &[Vec<TargetNo>],
     m: u32,
     section: &Section,
 ) -> Result<(), NoMemory>
+    requires by_area { AreByArea sites.now.targets by_area.now }
     requires readings { length section.now.readings ≡ length (areas_of sites.now.targets) }
     requires alerts { length section.now.alerts ≡ length (areas_of sites.now.targets) }
     ensures { OnOk result (out.new
@@ -177,7 +197,7 @@ pub fn put_section(
     write_out(out, &mark_line(m, &section.counts))?;
     put_refused(out, section.refused.as_slice())?;
     let (readings, alerts) = (section.readings.as_slice(), section.alerts.as_slice());
-    put_areas(out, sites, m, readings, alerts)
+    put_areas(out, sites, by_area, m, readings, alerts)
 }
 
 /// Appends what the output tells in the end: the length of the tail, and the totals.

@@ -1,9 +1,8 @@
 //! Worked lists of events.
 
-ghost use Rattle.std.specs.Prelude.{◌≡◌, ◌≤◌};
-ghost use Rattle.plum_engine.specs.Engine.{pass_through};
+ghost use Rattle.std.specs.Prelude.{◌≤◌};
 
-use crate::setup::{GAIN, THRESHOLDS, equal_samples, setup_of};
+use crate::setup::{GAIN, PASS_THROUGH, THRESHOLDS, equal_samples, setup_of};
 use plum_base::{
     AreaNo, Key, LaneNo, Name, Packet, Point, Sample, Setup, Sites, StationNo, StationSite,
     TargetSite, Tenths, lawful,
@@ -75,9 +74,7 @@ fn expect_replies(
     setup: &Setup,
     events: Vec<Event>,
     wanted: &[&str],
-) -> Result<(), Fail>
-    requires { setup.now.cascade ≡ pass_through }
-{
+) -> Result<(), Fail> {
     let mut existing = Vec::new(alloc);
     for event in events {
         assert!(rt; event.names_what_exists(sites, setup));
@@ -95,7 +92,7 @@ fn expect_replies(
 #[test]
 fn machine_with_a_queue_of_one(rt: HostRuntime) -> Result<(), Fail> {
     let alloc = rt.alloc();
-    let setup = setup_of(GAIN, &THRESHOLDS, 1, 1)?;
+    let setup = setup_of(PASS_THROUGH, GAIN, &THRESHOLDS, 1, 1)?;
     let sites = sites_of(&rt, alloc, &[0], &[("t1", "a", 0)])?;
     let events = vec![in alloc;
         take(alloc, 0, 0, 30, 10)?,
@@ -131,7 +128,7 @@ fn machine_with_a_queue_of_one(rt: HostRuntime) -> Result<(), Fail> {
 #[test]
 fn lanes_and_areas(rt: HostRuntime) -> Result<(), Fail> {
     let alloc = rt.alloc();
-    let setup = setup_of(GAIN, &THRESHOLDS, 2, 1)?;
+    let setup = setup_of(PASS_THROUGH, GAIN, &THRESHOLDS, 2, 1)?;
     let targets = [("t1", "a", 0), ("t2", "b", 40_000), ("t3", "a", 20_000)];
     let sites = sites_of(&rt, alloc, &[0, 40_000], &targets)?;
     let events = vec![in alloc;

@@ -1,8 +1,5 @@
 //! What the trials replay: a setup, a station, a target, and a capture.
 
-ghost use Rattle.std.specs.Prelude.{IfOk};
-ghost use Rattle.plum_core.specs.Laws.{IsPlain};
-
 use arrayvec::ArrayVec;
 use plum_base::{
     Bytes, Cascade, Class, Gain, Levels, Name, NoMemory, Point, Rules, Setup, Sites, Stage,
@@ -12,9 +9,7 @@ use std::alloc::Global;
 use std::test::Fail;
 
 /// A setup that passes its input through, and knows one level.
-pub fn plain_setup() -> Result<Setup, Fail>
-    ensures { IfOk result (λ setup. IsPlain setup) }
-{
+pub fn plain_setup() -> Result<Setup, Fail> {
     let mut stages = ArrayVec::new();
     stages.push(Stage {
         b0: 2,

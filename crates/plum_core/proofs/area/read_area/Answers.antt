@@ -1,4 +1,4 @@
-use Rattle.std.proofs.Common.{◌++◌, ◌∷◌, [], Bool, true, false, take, sym, ◌∙◌, append-nil}
+use Rattle.std.proofs.Common.{Bool, true, false, take, sym, ◌∙◌, append-nil}
 use Rattle.std.proofs.lemmas.List.{take_all, take_more}
 use Rattle.std.proofs.lemmas.Slice.Zip.{all_zipped_more}
 use Rattle.std.specs.Str.{bytes_eq}

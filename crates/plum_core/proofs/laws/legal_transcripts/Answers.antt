@@ -35,13 +35,13 @@ returns-clause-by_station c = λ setup sites segments t m station legal.
     ∙ law.by_station station (flat_map (λ segment. segment) (take m segments))
 
 pub returns-clause-shows : goal.returns-clause-shows
-returns-clause-shows c = λ setup sites segments t n s plain legal.
+returns-clause-shows c = λ setup sites segments t n s table legal.
     let stations = length sites.stations in
     let journal : List Entry = journal_of t in
     let valid : IsValidHistory setup stations (take n journal) =
     IsValidHistory-front setup stations (take n journal) (drop n journal)
     (subst (IsValidHistory setup stations) (sym (take-append-drop n journal)) legal.valid) in
-    shows_its_value setup stations s plain.table (take n journal) valid
+    shows_its_value setup stations s table (take n journal) valid
 
 pub returns-clause-start : goal.returns-clause-start
 returns-clause-start c = nothing_legal

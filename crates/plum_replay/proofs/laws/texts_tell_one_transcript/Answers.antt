@@ -25,7 +25,7 @@ unfolding transcript_of
 same_transcript t u parts readings = same_from t.parts u.parts t.readings u.readings parts readings
 
 pub returns : goal.returns
-returns c = λ setup sites capture journal output plain lawful named bytes few replay other.
+returns c = λ setup sites capture journal output table lawful named bytes few replay other.
     let hold = c.segments_hold_each_body.ensures.joined in
     let short = c.bytes_are_one_capture.ensures.tail in
     let finds = c.near_stations_are_those_near.ensures in
@@ -34,12 +34,12 @@ returns c = λ setup sites capture journal output plain lawful named bytes few r
     let t = replay.transcript in
     let u = other.transcript in
     let told =
-    replay_told hold setup sites plain lawful capture journal output bytes few in
+    replay_told hold setup sites table lawful capture journal output bytes few in
     let notes =
     c.texts_tell_a_run.ensures.journal stations t.parts u.parts codes (told replay) (told other)
     (sym replay.journal_is ∙ other.journal_is) in
     let shown = λ (r : IsReplay setup sites capture journal output).
-    output_told hold setup sites plain lawful capture journal output bytes few r short finds
+    output_told hold setup sites table lawful capture journal output bytes few r short finds
     named in
     let sections =
     (c.texts_tell_a_run.ensures.output sites.targets replay.sections other.sections replay.tail

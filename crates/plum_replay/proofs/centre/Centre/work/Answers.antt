@@ -45,7 +45,7 @@ returns-clause-replays c = λ setup segments t sections decoded was holds.
           (journal ++ part)) holds.packets took.1;
       size = takes.size ∙ c.requires.of.size;
       board = took.2;
-      read = c.in_ok-readings.ensures.over (journal ++ part) took.2 few;
+      read = c.in_ok-readings.ensures.over c.args.sites.now (journal ++ part) took.2 few;
       next = rw c.as_slice-3.ensures.value at (c.in_ok-alerts.ensures.alerts setup.rules
           (λ a. of_area a t.readings) was.desks);
       desks = rw c.as_slice-3.ensures.value at (c.in_ok-alerts.ensures.desks setup.rules

@@ -3,7 +3,7 @@ use Rattle.std.proofs.lemmas.Int.{to_z_pos, ints}
 use Rattle.plum_filter.specs.Stage.{clamped}
 use Rattle.plum_engine.proofs.Signals.{int_shr_is, product_fits, quotient_fits}
 use Rattle.std.specs.Int.{int_shr}
-use Rattle.plum_engine.proofs.signal.signal.Goals as goal
+use Rattle.plum_engine.proofs.gain.signal.Goals as goal
 
 pub returns-clause-value : goal.returns-clause-value
 returns-clause-value c =
@@ -15,6 +15,7 @@ returns-clause-value c =
     let product : FitsSigned w64 (count *ℤ pos g) = product_fits count g narrow (omega arith) in
     let quotient : FitsSigned w64 (int_shr (count *ℤ pos g) c.args.gain.h) =
     quotient_fits _ c.args.gain.h product in
-    let result : FitsSigned w64 c.clamp.result = omega (arith, ints) in
+    let long : FitsSigned w64 c.clamp.result = omega (arith, ints) in
+    let short : FitsSigned w32 c.clamp.result = omega (arith, ints) in
     let value = simp (factor, to_z-of_z) at c.clamp.ensures.value in
-    to_z-of_z result ∙ value ∙ ap clamped (int_shr_is (count *ℤ pos g) c.args.gain.h)
+    simp to_z-of_z (value ∙ ap clamped (int_shr_is (count *ℤ pos g) c.args.gain.h))
