@@ -1,2 +1,4 @@
 pub mod Words
-pub mod Nothing
+pub mod Turns
+pub mod Endings
+pub mod Promises

@@ -1,4 +1,6 @@
 pub mod Job
-pub mod BuiltIn
-pub mod Replayed
 pub mod Status
+pub mod Files
+pub mod Causes
+pub mod Replayed
+pub mod Ended

@@ -1,13 +1,15 @@
--- What a call did for the built-in setup and sites.
+-- What a call did for the setup and the sites of its files.
 use Rattle.plum_base.specs.declared.setup.Setup.{Setup}
 use Rattle.plum_base.specs.Counts.{AddUp}
+use Rattle.plum_base.specs.Sites.{SitesView}
 use Rattle.plum_host.specs.Told.{HostView}
 use Rattle.plum_replay.specs.declared.totals.Totals.{Totals}
 use Rattle.plum_replay.specs.Replayed.{ReplaysCapture, counts_in_all}
-use Rattle.plum_replay.specs.Begun.{StopsInOrder}
-use Rattle.plum.specs.BuiltIn.{IsBuiltInSetup, built_in_sites}
+use Rattle.plum_replay.specs.Begun.{BeginsReplay}
+use Rattle.plum.specs.Files.{FilesState}
 
--- The capture is replayed, and the totals add up. Where the host tells the capture, `replays` says:
+-- The capture is replayed over the setup and the sites that the files state, and the totals add up.
+-- Where the host tells the capture, `replays` says:
 --
 -- - The two texts are appended: `journal_appended`, `output_appended`, and of `replay` `journal_is`
 --   and `output_is`.
@@ -20,14 +22,15 @@ use Rattle.plum.specs.BuiltIn.{IsBuiltInSetup, built_in_sites}
 --   `legal`, by which each kept packet stands in the journal once.
 -- - The capture is read to its end: `read_whole`, and by `few` within the limit of records.
 -- - The alerts are by the rules: `alerts` of `sections_are`.
-pub record ReplaysBuiltIn (before after : HostView) : Type 0 where
+pub record ReplaysFiles (before after : HostView) : Type 0 where
   pub setup : Setup
-  pub built_in : IsBuiltInSetup setup
+  pub sites : SitesView
+  pub stated : FilesState before setup sites
   pub totals : Totals
-  pub replays : ReplaysCapture setup built_in_sites totals before after
+  pub replays : ReplaysCapture setup sites totals before after
   pub sums : AddUp (counts_in_all totals)
 
--- Nothing is appended, or the beginnings of the two texts of such a replay are.
-abbrev pub StopsInOrderBuiltIn : HostView → HostView → Type 0
-StopsInOrderBuiltIn before after =
-    (setup : Setup) × IsBuiltInSetup setup × StopsInOrder setup built_in_sites before after
+-- The beginnings of the two texts of such a replay are appended.
+abbrev pub BeginsFiles : HostView → HostView → Type 0
+BeginsFiles before after = (setup : Setup) × (sites : SitesView) × FilesState before setup sites
+    × BeginsReplay setup sites before after

@@ -1,20 +1,21 @@
 //! plum: an earthquake early warning centre that replays captures.
 //!
-//! It owns the words, the statuses, and the built-in setup and sites. It promises `run`: how each
-//! call ends, and what stands in the outputs then. It must not know how a replay is done: how
-//! packets are read and judged, or how its two texts are spelled.
+//! It owns the words, the statuses, and the order in which the files are read. It promises `run`:
+//! how each call ends, and what stands in the outputs then. It must not know what a file states, or
+//! how a replay is done: how packets are read and judged, or how its two texts are spelled.
 #![tactic(auto)]
 
-mod built_in;
+mod files;
 mod job;
 mod run;
 mod status;
+mod work;
 
 pub use job::paths_of;
 use plum_base::NoMemory;
 use plum_host::StdHost;
 pub use run::run;
-pub use status::{LimitOf, Status, status_number, status_text};
+pub use status::{LimitOf, SitesFile, Status, status_number, status_text};
 use std::env;
 use std::io::{ErrorKind, Write};
 use std::process::ExitCode;

@@ -1,14 +1,26 @@
 //! How a call ended.
 
-ghost use Rattle.std.specs.Prelude.{◌≡◌, IfOk};
-ghost use Rattle.plum.specs.Status.{number_of, text_of};
+ghost use Rattle.std.specs.Prelude.{◌≡◌, IfOk, string_bytes};
+ghost use Rattle.plum.specs.Status.{number_of, text_of, input_text, sites_file_text};
 
 use plum_base::{Bytes, NoMemory};
-use std::alloc::Global;
+use plum_host::In;
+use plum_sites::SiteFault;
+use plum_table::SetupFault;
+use std::alloc::{AllocError, Global};
+
+/// The two files of sites.
+#[derive(Clone, Copy, Debug, PartialEq, Eq)]
+pub enum SitesFile {
+    Stations,
+    Targets,
+}
 
 /// What has more than is taken of it.
 #[derive(Clone, Copy, Debug, PartialEq, Eq)]
 pub enum LimitOf {
+    /// The bytes of a file.
+    File(In),
     /// The records of the capture.
     Records,
 }
@@ -20,6 +32,10 @@ pub enum Status {
     Done,
     /// The words are not of the grammar.
     Usage,
+    /// The setup file is at fault.
+    Setup(SetupFault),
+    /// This file of sites is at fault.
+    Sites(SitesFile, SiteFault),
     ReadFault,
     WriteFault,
     /// There is more of it than is taken.
@@ -34,6 +50,8 @@ pub fn status_number(status: &Status) -> u8
     match status {
         Status::Done => 0,
         Status::Usage => 2,
+        Status::Setup(_) => 3,
+        Status::Sites(_, _) => 4,
         Status::ReadFault => 5,
         Status::WriteFault => 6,
         Status::Limit(_) => 7,
@@ -41,19 +59,79 @@ pub fn status_number(status: &Status) -> u8
     }
 }
 
+fn input_name(input: In) -> &'static str
+    ensures { result.now ≡ input_text input }
+{
+    match input {
+        In::Setup => "setup",
+        In::Stations => "stations",
+        In::Targets => "targets",
+        In::Capture => "capture",
+        In::Journal => "journal",
+        In::Output => "output",
+    }
+}
+
+fn sites_file_name(file: SitesFile) -> &'static str
+    ensures { result.now ≡ sites_file_text file }
+{
+    match file {
+        SitesFile::Stations => "stations",
+        SitesFile::Targets => "targets",
+    }
+}
+
+fn setup_line(alloc: Global, fault: SetupFault) -> Result<String, AllocError>
+    ensures { IfOk result (λ line. string_bytes line ≡ text_of (Status.Setup fault)) }
+{
+    match fault {
+        SetupFault::NotToml => format!(in alloc; "plum: setup S1\n"),
+        SetupFault::Missing(key) => format!(in alloc; "plum: setup S2 {key}\n"),
+        SetupFault::Kind(key) => format!(in alloc; "plum: setup S3 {key}\n"),
+        SetupFault::Range(key) => format!(in alloc; "plum: setup S4 {key}\n"),
+        SetupFault::Order(position) => format!(in alloc; "plum: setup S5 {position}\n"),
+    }
+}
+
+fn sites_line(alloc: Global, file: SitesFile, fault: SiteFault) -> Result<String, AllocError>
+    ensures { IfOk result (λ line. string_bytes line ≡ text_of (Status.Sites file fault)) }
+{
+    let file = sites_file_name(file);
+    match fault {
+        SiteFault::Header => format!(in alloc; "plum: {file} C1\n"),
+        SiteFault::Columns(row) => format!(in alloc; "plum: {file} C2 {row}\n"),
+        SiteFault::Number(row) => format!(in alloc; "plum: {file} C3 {row}\n"),
+        SiteFault::Range(row) => format!(in alloc; "plum: {file} C4 {row}\n"),
+        SiteFault::Twice(row) => format!(in alloc; "plum: {file} C5 {row}\n"),
+        SiteFault::TooMany(row) => format!(in alloc; "plum: {file} C6 {row}\n"),
+    }
+}
+
+fn limit_line(alloc: Global, of_what: LimitOf) -> Result<String, AllocError>
+    ensures { IfOk result (λ line. string_bytes line ≡ text_of (Status.Limit of_what)) }
+{
+    let what = match of_what {
+        LimitOf::File(input) => input_name(input),
+        LimitOf::Records => "records",
+    };
+    format!(in alloc; "plum: limit {what}\n")
+}
+
 /// One line with its line feed, or nothing for `Done`.
 pub fn status_text(alloc: Global, status: &Status) -> Result<Bytes, NoMemory>
     ensures { IfOk result (λ text. text ≡ text_of status.now) }
 {
     let mut text = Bytes::new(alloc)?;
-    match status {
+    match *status {
         Status::Done => {}
         Status::Usage => text.extend(
             b"plum: usage: replay SETUP STATIONS TARGETS CAPTURE JOURNAL\n",
         )?,
+        Status::Setup(fault) => text.extend(setup_line(alloc, fault)?.as_bytes())?,
+        Status::Sites(file, fault) => text.extend(sites_line(alloc, file, fault)?.as_bytes())?,
         Status::ReadFault => text.extend(b"plum: read fault\n")?,
         Status::WriteFault => text.extend(b"plum: write fault\n")?,
-        Status::Limit(LimitOf::Records) => text.extend(b"plum: limit records\n")?,
+        Status::Limit(of_what) => text.extend(limit_line(alloc, of_what)?.as_bytes())?,
         Status::NoMemory => text.extend(b"plum: no memory\n")?,
     }
     Ok(text)
