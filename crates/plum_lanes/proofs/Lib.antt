@@ -1,0 +1,10 @@
+pub mod Views
+pub mod Making
+pub mod Sending
+pub mod Gathering
+pub mod Leaving
+pub mod Takes
+pub mod Gathered
+pub mod Opened
+pub mod Closed
+pub mod Sent

@@ -1,0 +1,90 @@
+-- One lane of those at work has changed.
+use Rattle.std.proofs.Common.{◌≡◌, ℕ, ◌<◌, List, length, length-set, set, get_or, get_or-set_same}
+use Rattle.std.proofs.Common.{get_or-set_other, slice_index_or, take, drop, ◌++◌}
+use Rattle.std.proofs.Common.{append-nil, sym, ◌∙◌, ap, subst}
+use Rattle.std.proofs.Math.Seq.{take-length, drop-length}
+use native.Mathlib.Decide.{ℕ_discrete}
+use Rattle.plum_lanes.specs.declared.gatherer.Gather.{Gather}
+use Rattle.plum_lanes.specs.declared.lanes.Lane.{Lane}
+use Rattle.plum_lanes.specs.Lanes.{Queue, AreLanes, IsGather}
+use Rattle.plum_trials_lanes.specs.AtWork.{IsOf, IsAtWork, AreAtWork, IsOpen, IsSomeLane}
+use Rattle.plum_trials_lanes.specs.AtWork.{StaysAtWork, AreSomeLanes, StayAtWork, StaysGather}
+
+pub AreAtWork-set : (queue : Queue) (lanes : List Lane) (k : ℕ) (new : Lane) → k < length lanes
+    → AreAtWork queue lanes → IsAtWork queue k new → AreAtWork queue (set lanes k new)
+AreAtWork-set queue lanes k new within all here i d less = elim (ℕ_discrete i k) [
+  | yes q ↦
+      let is : new ≡ get_or (set lanes k new) i d =
+      sym (ap (λ m. get_or (set lanes k new) m d) q ∙ get_or-set_same lanes k new d within) in
+      subst (λ (y : ℕ × Lane). IsAtWork queue y.0 y.1) (λ j. (sym q j, is j)) here
+  | no q ↦
+      let less' : i < length lanes = subst (λ n. i < n) (length-set lanes k new) less in
+      subst (IsAtWork queue i) (sym (get_or-set_other lanes k i new d q)) (all i d less')
+]
+
+pub AreLanes-at_work : (queue : Queue) (stations : ℕ) (lanes : List Lane)
+    → IsOf stations (length lanes) queue → AreAtWork queue lanes → AreLanes queue lanes
+AreLanes-at_work queue stations lanes shape all = record {
+  all = sym shape.1;
+  each = λ i d less. (all i d less).is_lane;
+}
+
+module _ (stations : ℕ) (lanes : List Lane) (gather : Gather) (is : IsOpen stations lanes gather)
+    (n k : ℕ) (n_is : n ≡ length lanes) (lane : Lane) (within : k < length lanes)
+    (at : lane ≡ slice_index_or lanes k lane) where
+  -- It is a lane of the queue.
+  pub IsSomeLane-at : IsSomeLane stations n k lane
+  IsSomeLane-at = (
+    is.queue,
+    (is.shape.0, is.shape.1 ∙ sym n_is),
+    subst (IsAtWork is.queue k) (sym at) (is.at_work k lane within),
+  )
+
+  -- All are open when it has changed.
+  pub IsOpen-set : (new : Lane) → StaysAtWork stations n k lane new
+      → IsOpen stations (set lanes k new) gather
+  unfolding IsSomeLane-at
+  IsOpen-set new stays = record {
+    queue = is.queue;
+    shape = (is.shape.0, is.shape.1 ∙ sym (length-set lanes k new));
+    at_work =
+        AreAtWork-set is.queue lanes k new within is.at_work
+        (stays is.queue IsSomeLane-at.1 IsSomeLane-at.2);
+    gather_is = is.gather_is;
+  }
+
+-- A lane that stays at work is a lane of the queue.
+pub IsSomeLane-stays : (stations lanes number : ℕ) (before after : Lane)
+    → IsSomeLane stations lanes number before → StaysAtWork stations lanes number before after
+    → IsSomeLane stations lanes number after
+IsSomeLane-stays stations lanes number before after some stays =
+    (some.0, some.1, stays some.0 some.1 some.2)
+
+-- As many elements, written over those of a vector, are its elements.
+pub items_of : (lanes : List Lane) (n : ℕ) (new : List Lane) → n ≡ length lanes
+    → length new ≡ length lanes → take n (new ++ drop (length new) lanes) ≡ new
+items_of lanes n new n_is same =
+    ap (λ m. take n (new ++ drop m lanes)) same
+    ∙ ap (λ es. take n (new ++ es)) (drop-length lanes)
+    ∙ ap (take n) (append-nil new)
+    ∙ ap (λ m. take m new) (n_is ∙ sym same)
+    ∙ take-length new
+
+-- Lanes at work are lanes of the queue.
+pub AreSomeLanes-at_work : (queue : Queue) (stations count : ℕ) (lanes : List Lane)
+    → IsOf stations count queue → AreAtWork queue lanes → AreSomeLanes stations count lanes
+AreSomeLanes-at_work queue stations count lanes shape work i d less =
+    (queue, shape, work i d less)
+
+pub AreAtWork-stay : (queue : Queue) (stations count : ℕ) (before after : List Lane)
+    → IsOf stations count queue → length after ≡ length before
+    → StayAtWork stations count before after → AreAtWork queue before → AreAtWork queue after
+AreAtWork-stay queue stations count before after shape long stay work i d less =
+    let less' : i < length before = subst (λ n. i < n) long less in
+    stay i d less' queue shape (work i d less')
+
+pub StaysGather-then : (a b c : Gather) → StaysGather a b
+    → ((queue : Queue) → IsGather queue b → IsGather queue c) → StaysGather a c
+StaysGather-then a b c first then = record {
+  stays = λ queue is. then queue (first.stays queue is);
+}
