@@ -1,11 +1,13 @@
 //! Replays a capture as `plum replay` does, with the standard library alone and nothing proved.
 //!
-//! It is what the proved program is compared with: the same steps in the same order, and the same texts.
+//! It is what the proved program is compared with: the same work, and the same texts. It reads the setup and the site
+//! files in the form in which `bench/run` writes them. What it cannot read ends it with the status of such a file; why
+//! is not told, and what a file must keep besides is not tested.
 
-use std::collections::VecDeque;
+use std::collections::{HashMap, VecDeque};
 use std::env;
 use std::fmt;
-use std::fs::File;
+use std::fs::{self, File};
 use std::io::{self, BufReader, BufWriter, Read, Write};
 use std::mem;
 use std::process::ExitCode;
@@ -19,8 +21,9 @@ const SEGMENT_BODIES: usize = 65_536;
 /// How many records a capture has at most, marks included.
 const MOST_RECORDS: u32 = 4_294_967_294;
 
-/// The code of the one station.
-const STATION: u16 = 1;
+/// The most stations and targets.
+const MOST_STATIONS: usize = 4_096;
+const MOST_TARGETS: usize = 8_192;
 
 const HEADER: usize = 14;
 const SAMPLE: usize = 12;
@@ -30,23 +33,17 @@ const MOST_SAMPLES: u16 = 200;
 const WINDOW: usize = 6_000;
 const ENOUGH: usize = 30;
 
-/// The gain, as a factor and a shift to the right, and the greatest signal.
-const GAIN: i64 = 1;
-const SHIFT: u32 = 0;
-const GREATEST_SIGNAL: i64 = 1 << 30;
+/// The greatest number of a signal, before and behind each stage, in filtered units.
+const GREATEST: i64 = 1 << 30;
 
-/// Level i stands for BASE + i tenths of intensity.
-const THRESHOLDS: [u64; 4] = [0, 100, 400, 900];
-const BASE: i16 = 20;
-
-/// Two readings in a row that reach RAISE raise an alert, and CALM in a row below CANCEL end it.
-const RAISE: Class = Class::C4;
-const CANCEL: Class = Class::C3;
-const CALM: u32 = 2;
+/// Within how many metres a station is near a target.
+const RADIUS: i64 = 30_000;
 
 /// Why a replay stopped.
 enum Stop {
     Usage,
+    Setup,
+    Sites(&'static str),
     Read(io::Error),
     Write(io::Error),
     TooManyRecords,
@@ -56,6 +53,8 @@ impl Stop {
     fn status(&self) -> u8 {
         match self {
             Stop::Usage => 2,
+            Stop::Setup => 3,
+            Stop::Sites(_) => 4,
             Stop::Read(_) => 5,
             Stop::Write(_) => 6,
             Stop::TooManyRecords => 7,
@@ -67,11 +66,97 @@ impl fmt::Display for Stop {
     fn fmt(&self, f: &mut fmt::Formatter) -> fmt::Result {
         match self {
             Stop::Usage => write!(f, "usage: replay SETUP STATIONS TARGETS CAPTURE JOURNAL"),
+            Stop::Setup => write!(f, "setup"),
+            Stop::Sites(file) => write!(f, "{file}"),
             Stop::Read(error) => write!(f, "read fault: {error}"),
             Stop::Write(error) => write!(f, "write fault: {error}"),
             Stop::TooManyRecords => write!(f, "limit records"),
         }
     }
+}
+
+/// A stage of second order. The coefficients are multiples of 2^-q. It rounds down, or to the nearest with halves up.
+#[derive(Clone, Copy, Debug, Default)]
+struct Stage {
+    b0: i64,
+    b1: i64,
+    b2: i64,
+    a1: i64,
+    a2: i64,
+    q: u32,
+    nearest: bool,
+}
+
+/// From counts to filtered units: times the factor, and then shifted to the right.
+#[derive(Debug, Default)]
+struct Gain {
+    factor: i64,
+    shift: u32,
+}
+
+impl Gain {
+    fn signal(&self, count: i32) -> i64 {
+        ((i64::from(count) * self.factor) >> self.shift).clamp(-GREATEST, GREATEST)
+    }
+}
+
+/// Two readings in a row that reach `raise` raise an alert, and `calm` in a row below `cancel` end it.
+#[derive(Clone, Copy, Debug, Default)]
+struct Rules {
+    raise: Class,
+    cancel: Class,
+    calm: u32,
+}
+
+/// Level i stands for base + i tenths of intensity.
+#[derive(Debug, Default)]
+struct Setup {
+    gain: Gain,
+    stages: Vec<Stage>,
+    base: i16,
+    thresholds: Vec<u64>,
+    rules: Rules,
+}
+
+#[derive(Clone, Copy)]
+struct Point {
+    x: i32,
+    y: i32,
+}
+
+impl Point {
+    fn is_near(self, other: Point) -> bool {
+        let (dx, dy) = (i64::from(self.x - other.x), i64::from(self.y - other.y));
+        dx * dx + dy * dy <= RADIUS * RADIUS
+    }
+}
+
+struct StationSite {
+    code: u16,
+    at: Point,
+    factor: i16,
+}
+
+struct TargetSite {
+    name: String,
+    area: String,
+    at: Point,
+    factor: i16,
+}
+
+/// An area, and its targets by number.
+struct Area {
+    name: String,
+    targets: Vec<usize>,
+}
+
+struct Sites {
+    stations: Vec<StationSite>,
+    targets: Vec<TargetSite>,
+    /// In the order in which they come first in the target file.
+    areas: Vec<Area>,
+    /// The number of each station, by its code.
+    numbers: HashMap<u16, usize>,
 }
 
 #[derive(Clone, Copy, PartialEq, Eq, PartialOrd, Ord)]
@@ -88,6 +173,8 @@ struct Sample {
 }
 
 struct Packet {
+    /// The station's number.
+    station: usize,
     key: Key,
     wave: Vec<Sample>,
 }
@@ -131,8 +218,8 @@ struct Segment {
 }
 
 impl Segment {
-    fn push(&mut self, record: u32, body: &[u8]) {
-        match decode(body) {
+    fn push(&mut self, sites: &Sites, record: u32, body: &[u8]) {
+        match decode(sites, body) {
             Ok(packet) => self.packets.push(packet),
             Err(fault) => self.refused.push(Refused { record, fault }),
         }
@@ -151,13 +238,15 @@ struct Capture {
 
 /// A kept packet without its samples, and the station's intensity after it.
 struct Note {
+    station: usize,
     key: Key,
     fresh: bool,
     value: Option<Tenths>,
 }
 
-#[derive(Clone, Copy, Debug, PartialEq, Eq, PartialOrd, Ord)]
+#[derive(Clone, Copy, Debug, Default, PartialEq, Eq, PartialOrd, Ord)]
 enum Class {
+    #[default]
     C0,
     C1,
     C2,
@@ -170,9 +259,22 @@ enum Class {
     C7,
 }
 
-impl fmt::Display for Class {
-    fn fmt(&self, f: &mut fmt::Formatter) -> fmt::Result {
-        f.write_str(match self {
+const CLASSES: [Class; 10] = [
+    Class::C0,
+    Class::C1,
+    Class::C2,
+    Class::C3,
+    Class::C4,
+    Class::C5Lower,
+    Class::C5Upper,
+    Class::C6Lower,
+    Class::C6Upper,
+    Class::C7,
+];
+
+impl Class {
+    fn text(self) -> &'static str {
+        match self {
             Class::C0 => "0",
             Class::C1 => "1",
             Class::C2 => "2",
@@ -183,11 +285,17 @@ impl fmt::Display for Class {
             Class::C6Lower => "6-",
             Class::C6Upper => "6+",
             Class::C7 => "7",
-        })
+        }
     }
 }
 
-#[derive(Clone, Copy)]
+impl fmt::Display for Class {
+    fn fmt(&self, f: &mut fmt::Formatter) -> fmt::Result {
+        f.write_str(self.text())
+    }
+}
+
+#[derive(Clone, Copy, PartialEq, Eq, PartialOrd, Ord)]
 struct Tenths(i16);
 
 impl fmt::Display for Tenths {
@@ -244,6 +352,172 @@ impl fmt::Display for Alert {
     }
 }
 
+/// The text between quotes.
+fn unquoted(value: &str) -> Option<&str> {
+    value.strip_prefix('"')?.strip_suffix('"')
+}
+
+fn class_named(value: &str) -> Option<Class> {
+    let text = unquoted(value)?;
+    CLASSES.into_iter().find(|class| class.text() == text)
+}
+
+/// The numbers of an array on one line.
+fn numbers(value: &str) -> Option<Vec<u64>> {
+    let items = value.strip_prefix('[')?.strip_suffix(']')?;
+    items
+        .split(',')
+        .map(|item| item.trim().parse().ok())
+        .collect()
+}
+
+impl Stage {
+    fn set(&mut self, key: &str, value: &str) -> Option<()> {
+        match key {
+            "b0" => self.b0 = value.parse().ok()?,
+            "b1" => self.b1 = value.parse().ok()?,
+            "b2" => self.b2 = value.parse().ok()?,
+            "a1" => self.a1 = value.parse().ok()?,
+            "a2" => self.a2 = value.parse().ok()?,
+            "q" => self.q = value.parse().ok()?,
+            "round" => self.nearest = unquoted(value)? == "nearest",
+            _ => {}
+        }
+        Some(())
+    }
+}
+
+impl Setup {
+    fn set(&mut self, table: &str, key: &str, value: &str) -> Option<()> {
+        match (table, key) {
+            ("gain", "g") => self.gain.factor = value.parse().ok()?,
+            ("gain", "h") => self.gain.shift = value.parse().ok()?,
+            ("stage", _) => self.stages.last_mut()?.set(key, value)?,
+            ("levels", "base") => self.base = value.parse().ok()?,
+            ("levels", "thresholds") => self.thresholds = numbers(value)?,
+            ("rules", "raise") => self.rules.raise = class_named(value)?,
+            ("rules", "cancel") => self.rules.cancel = class_named(value)?,
+            ("rules", "calm") => self.rules.calm = value.parse().ok()?,
+            _ => {}
+        }
+        Some(())
+    }
+
+    /// The setup of a text with a key a line, and comments on lines of their own. Keys that it does not use are passed
+    /// over.
+    fn read(text: &str) -> Option<Setup> {
+        let mut setup = Setup::default();
+        let mut table = "";
+        for line in text.lines() {
+            if line.is_empty() || line.starts_with('#') {
+                continue;
+            }
+            if line.starts_with('[') {
+                table = line.trim_matches(['[', ']']);
+                if table == "stage" {
+                    setup.stages.push(Stage::default());
+                }
+                continue;
+            }
+            let (key, value) = line.split_once(" = ")?;
+            setup.set(table, key, value)?;
+        }
+        Some(setup)
+    }
+}
+
+/// So many fields of a row. None has quotes.
+fn fields<const N: usize>(row: &str) -> Option<[&str; N]> {
+    let mut parts = row.split(',');
+    let mut found = [""; N];
+    for field in &mut found {
+        *field = parts.next()?;
+    }
+    parts.next().is_none().then_some(found)
+}
+
+/// What the rows of a text say, at most so many, below this header.
+fn read_rows<T>(
+    text: &str,
+    header: &str,
+    most: usize,
+    read: fn(&str) -> Option<T>,
+) -> Option<Vec<T>> {
+    let mut lines = text.lines().filter(|line| !line.is_empty());
+    if lines.next()? != header {
+        return None;
+    }
+    let rows: Vec<T> = lines.take(most + 1).map(read).collect::<Option<_>>()?;
+    (rows.len() <= most).then_some(rows)
+}
+
+fn point(x: &str, y: &str) -> Option<Point> {
+    Some(Point {
+        x: x.parse().ok()?,
+        y: y.parse().ok()?,
+    })
+}
+
+fn station_of(row: &str) -> Option<StationSite> {
+    let [code, x, y, factor] = fields(row)?;
+    Some(StationSite {
+        code: code.parse().ok()?,
+        at: point(x, y)?,
+        factor: factor.parse().ok()?,
+    })
+}
+
+fn target_of(row: &str) -> Option<TargetSite> {
+    let [name, area, x, y, factor] = fields(row)?;
+    Some(TargetSite {
+        name: name.to_string(),
+        area: area.to_string(),
+        at: point(x, y)?,
+        factor: factor.parse().ok()?,
+    })
+}
+
+fn areas_of(targets: &[TargetSite]) -> Vec<Area> {
+    let mut areas: Vec<Area> = Vec::new();
+    for (number, target) in targets.iter().enumerate() {
+        match areas.iter_mut().find(|area| area.name == target.area) {
+            Some(area) => area.targets.push(number),
+            None => areas.push(Area {
+                name: target.area.clone(),
+                targets: vec![number],
+            }),
+        }
+    }
+    areas
+}
+
+impl Sites {
+    fn new(stations: Vec<StationSite>, targets: Vec<TargetSite>) -> Sites {
+        let numbers = stations.iter().enumerate();
+        Sites {
+            numbers: numbers.map(|(number, site)| (site.code, number)).collect(),
+            areas: areas_of(&targets),
+            stations,
+            targets,
+        }
+    }
+}
+
+fn read_setup(path: &str) -> Result<Setup, Stop> {
+    let text = fs::read_to_string(path).map_err(Stop::Read)?;
+    Setup::read(&text).ok_or(Stop::Setup)
+}
+
+fn read_stations(path: &str) -> Result<Vec<StationSite>, Stop> {
+    let text = fs::read_to_string(path).map_err(Stop::Read)?;
+    read_rows(&text, "code,x,y,factor", MOST_STATIONS, station_of).ok_or(Stop::Sites("stations"))
+}
+
+fn read_targets(path: &str) -> Result<Vec<TargetSite>, Stop> {
+    let text = fs::read_to_string(path).map_err(Stop::Read)?;
+    read_rows(&text, "name,area,x,y,factor", MOST_TARGETS, target_of).ok_or(Stop::Sites("targets"))
+}
+
 /// Reads a record, length and all. Tells whether it is whole: else the input ended.
 fn read_record(input: &mut impl Read, record: &mut Vec<u8>) -> io::Result<bool> {
     record.clear();
@@ -273,7 +547,7 @@ fn sample(bytes: &[u8]) -> Sample {
 }
 
 /// The packet that a body is, or its first fault.
-fn decode(body: &[u8]) -> Result<Packet, Fault> {
+fn decode(sites: &Sites, body: &[u8]) -> Result<Packet, Fault> {
     if body.len() < HEADER {
         return Err(Fault::Short);
     }
@@ -287,9 +561,9 @@ fn decode(body: &[u8]) -> Result<Packet, Fault> {
         return Err(Fault::Flags(body[3]));
     }
     let code = read_u16(body, 4);
-    if code != STATION {
+    let Some(&station) = sites.numbers.get(&code) else {
         return Err(Fault::Station(code));
-    }
+    };
     let count = read_u16(body, 12);
     if !(1..=MOST_SAMPLES).contains(&count) {
         return Err(Fault::Count(count));
@@ -299,6 +573,7 @@ fn decode(body: &[u8]) -> Result<Packet, Fault> {
         return Err(Fault::Length { expected, found });
     }
     Ok(Packet {
+        station,
         key: Key {
             boot: read_u16(body, 6),
             number: read_u32(body, 8),
@@ -308,7 +583,7 @@ fn decode(body: &[u8]) -> Result<Packet, Fault> {
 }
 
 /// Reads a capture to its end. A segment ends at a mark, where it is full, and at the end.
-fn read_capture(path: &str) -> Result<Capture, Stop> {
+fn read_capture(sites: &Sites, path: &str) -> Result<Capture, Stop> {
     let mut input = BufReader::new(File::open(path).map_err(Stop::Read)?);
     let mut segments = Vec::new();
     let mut segment = Segment::default();
@@ -322,7 +597,7 @@ fn read_capture(path: &str) -> Result<Capture, Stop> {
         let body = &record[2..];
         let mark = body == MARK;
         if !mark {
-            segment.push(number, body);
+            segment.push(sites, number, body);
         }
         if mark || segment.bodies() == SEGMENT_BODIES {
             segments.push(mem::take(&mut segment));
@@ -335,51 +610,89 @@ fn read_capture(path: &str) -> Result<Capture, Stop> {
     })
 }
 
-fn squared_signal(count: i32) -> u64 {
-    let signal = (i64::from(count) * GAIN) >> SHIFT;
-    let size = signal
-        .clamp(-GREATEST_SIGNAL, GREATEST_SIGNAL)
-        .unsigned_abs();
-    size * size
+/// A stage at work, and the two numbers of its input and of its output before, newest first.
+struct Biquad {
+    stage: Stage,
+    half: i64,
+    x1: i64,
+    x2: i64,
+    y1: i64,
+    y2: i64,
 }
 
-fn squared_amplitude(sample: &Sample) -> u64 {
-    squared_signal(sample.x) + squared_signal(sample.y) + squared_signal(sample.z)
+impl Biquad {
+    fn new(stage: Stage) -> Biquad {
+        Biquad {
+            stage,
+            half: if stage.nearest { 1 << (stage.q - 1) } else { 0 },
+            x1: 0,
+            x2: 0,
+            y1: 0,
+            y2: 0,
+        }
+    }
+
+    fn step(&mut self, x: i64) -> i64 {
+        let stage = &self.stage;
+        let sum = stage.b0 * x + stage.b1 * self.x1 + stage.b2 * self.x2
+            - stage.a1 * self.y1
+            - stage.a2 * self.y2;
+        let y = ((sum + self.half) >> stage.q).clamp(-GREATEST, GREATEST);
+        (self.x1, self.x2) = (x, self.x1);
+        (self.y1, self.y2) = (y, self.y1);
+        y
+    }
+}
+
+/// The stages of one component.
+struct Filter(Vec<Biquad>);
+
+impl Filter {
+    fn new(stages: &[Stage]) -> Filter {
+        Filter(stages.iter().map(|stage| Biquad::new(*stage)).collect())
+    }
+
+    fn step(&mut self, x: i64) -> i64 {
+        self.0.iter_mut().fold(x, |x, stage| stage.step(x))
+    }
+
+    fn reset(&mut self) {
+        for stage in &mut self.0 {
+            *stage = Biquad::new(stage.stage);
+        }
+    }
 }
 
 /// The level of each sample of the last minute since the last gap, how many samples have each level,
 /// and the greatest level that enough of them have or exceed.
-struct Engine {
+struct Window<'a> {
+    thresholds: &'a [u64],
     levels: VecDeque<u8>,
-    counts: [usize; THRESHOLDS.len()],
+    counts: Vec<usize>,
     top: usize,
     reached: usize,
 }
 
-impl Engine {
-    fn new() -> Engine {
-        Engine {
+impl<'a> Window<'a> {
+    fn new(thresholds: &'a [u64]) -> Window<'a> {
+        Window {
+            thresholds,
             levels: VecDeque::with_capacity(WINDOW),
-            counts: [0; THRESHOLDS.len()],
+            counts: vec![0; thresholds.len()],
             top: 0,
             reached: 0,
         }
     }
 
-    fn absorb(&mut self, fresh: bool, wave: &[Sample]) -> Option<Tenths> {
-        if fresh {
-            self.levels.clear();
-            self.counts = [0; THRESHOLDS.len()];
-            self.top = 0;
-            self.reached = 0;
-        }
-        for sample in wave {
-            self.push(squared_amplitude(sample));
-        }
-        if self.levels.len() < ENOUGH {
-            return None;
-        }
-        Some(Tenths(BASE + self.top as i16))
+    fn clear(&mut self) {
+        self.levels.clear();
+        self.counts.fill(0);
+        self.top = 0;
+        self.reached = 0;
+    }
+
+    fn level(&self) -> Option<usize> {
+        (self.levels.len() >= ENOUGH).then_some(self.top)
     }
 
     fn push(&mut self, amplitude: u64) {
@@ -388,7 +701,10 @@ impl Engine {
             self.counts[left] -= 1;
             self.reached -= usize::from(left >= self.top);
         }
-        let came = THRESHOLDS.partition_point(|threshold| *threshold <= amplitude) - 1;
+        let came = self
+            .thresholds
+            .partition_point(|threshold| *threshold <= amplitude)
+            - 1;
         self.levels.push_back(came as u8);
         self.counts[came] += 1;
         self.reached += usize::from(came >= self.top);
@@ -403,22 +719,63 @@ impl Engine {
     }
 }
 
-/// The one station: its last kept packet, and the run that this one ended.
-struct Station {
-    last: Option<Key>,
-    engine: Engine,
+/// What works out a station's intensity: a filter for each component, and the window behind them.
+struct Engine<'a> {
+    setup: &'a Setup,
+    filters: [Filter; 3],
+    window: Window<'a>,
 }
 
-impl Station {
-    fn new() -> Station {
+impl<'a> Engine<'a> {
+    fn new(setup: &'a Setup) -> Engine<'a> {
+        Engine {
+            setup,
+            filters: [(); 3].map(|()| Filter::new(&setup.stages)),
+            window: Window::new(&setup.thresholds),
+        }
+    }
+
+    fn squared_amplitude(&mut self, sample: &Sample) -> u64 {
+        let [x, y, z] = &mut self.filters;
+        [(x, sample.x), (y, sample.y), (z, sample.z)]
+            .into_iter()
+            .map(|(filter, count)| {
+                let size = filter.step(self.setup.gain.signal(count)).unsigned_abs();
+                size * size
+            })
+            .sum()
+    }
+
+    fn absorb(&mut self, fresh: bool, wave: &[Sample]) -> Option<Tenths> {
+        if fresh {
+            self.filters.iter_mut().for_each(Filter::reset);
+            self.window.clear();
+        }
+        for sample in wave {
+            let amplitude = self.squared_amplitude(sample);
+            self.window.push(amplitude);
+        }
+        let level = self.window.level()?;
+        Some(Tenths(self.setup.base + level as i16))
+    }
+}
+
+/// A station: its last kept packet, and the run that this one ended.
+struct Station<'a> {
+    last: Option<Key>,
+    engine: Engine<'a>,
+}
+
+impl<'a> Station<'a> {
+    fn new(setup: &'a Setup) -> Station<'a> {
         Station {
             last: None,
-            engine: Engine::new(),
+            engine: Engine::new(setup),
         }
     }
 
     /// The note of a packet that is kept: none where it is a repeat.
-    fn take(&mut self, Packet { key, wave }: Packet) -> Option<Note> {
+    fn take(&mut self, Packet { station, key, wave }: Packet) -> Option<Note> {
         if self.last.is_some_and(|last| key <= last) {
             return None;
         }
@@ -428,6 +785,7 @@ impl Station {
         self.last = Some(key);
         let value = self.engine.absorb(!continues, &wave);
         Some(Note {
+            station,
             key,
             fresh: !continues,
             value,
@@ -435,22 +793,67 @@ impl Station {
     }
 }
 
-/// What stands in the one area.
-#[derive(Default)]
+/// What the stations show, and which of them are near each target. They stand where they are, so that is worked out
+/// once.
+struct Board<'a> {
+    sites: &'a Sites,
+    values: Vec<Option<Tenths>>,
+    near: Vec<Vec<u16>>,
+}
+
+impl<'a> Board<'a> {
+    fn new(sites: &'a Sites) -> Board<'a> {
+        let near_to = |target: &TargetSite| {
+            let stations = (0..).zip(&sites.stations);
+            stations
+                .filter(|(_, site)| site.at.is_near(target.at))
+                .map(|(number, _)| number)
+                .collect()
+        };
+        Board {
+            sites,
+            values: vec![None; sites.stations.len()],
+            near: sites.targets.iter().map(near_to).collect(),
+        }
+    }
+
+    /// The greatest of what the stations near a target show, without their factors and with the target's.
+    fn predict(&self, target: usize) -> Option<Tenths> {
+        let said_by = |number: &u16| {
+            let number = usize::from(*number);
+            let Tenths(value) = self.values[number]?;
+            Some(value - self.sites.stations[number].factor)
+        };
+        let best = self.near[target].iter().filter_map(said_by).max()?;
+        Some(Tenths(best + self.sites.targets[target].factor))
+    }
+}
+
+/// What stands in an area.
 struct Desk {
+    rules: Rules,
     alert: Option<Class>,
-    /// Whether the last reading reached RAISE.
+    /// Whether the last reading reached the raise class.
     reached: bool,
-    /// How many readings in a row are below CANCEL, up to the last.
+    /// How many readings in a row are below the cancel class, up to the last.
     calm: u32,
 }
 
 impl Desk {
+    fn new(rules: Rules) -> Desk {
+        Desk {
+            rules,
+            alert: None,
+            reached: false,
+            calm: 0,
+        }
+    }
+
     /// The alert that the next reading gives, if any. No class is below every class.
     fn next(&mut self, class: Option<Class>) -> Option<Alert> {
-        let reaches = class >= Some(RAISE);
+        let reaches = class >= Some(self.rules.raise);
         let reached_before = mem::replace(&mut self.reached, reaches);
-        self.calm = if class < Some(CANCEL) {
+        self.calm = if class < Some(self.rules.cancel) {
             self.calm.saturating_add(1)
         } else {
             0
@@ -464,7 +867,7 @@ impl Desk {
                 self.alert = Some(class);
                 Some(Alert::Upgrade(class))
             }
-            (Some(_), _) if self.calm >= CALM => {
+            (Some(_), _) if self.calm >= self.rules.calm => {
                 self.alert = None;
                 Some(Alert::Cancel)
             }
@@ -501,25 +904,26 @@ impl fmt::Display for Counts {
 }
 
 /// A replay at work, and the two texts that it writes.
-struct Replay<J: Write, O: Write> {
+struct Replay<'a, J: Write, O: Write> {
     journal: J,
     output: O,
-    station: Station,
-    desk: Desk,
-    /// What the station shows, and so the one target, which stands at it.
-    value: Option<Tenths>,
+    sites: &'a Sites,
+    stations: Vec<Station<'a>>,
+    board: Board<'a>,
+    desks: Vec<Desk>,
     segments: usize,
     counts: Counts,
 }
 
-impl<J: Write, O: Write> Replay<J, O> {
-    fn new(journal: J, output: O) -> Replay<J, O> {
+impl<'a, J: Write, O: Write> Replay<'a, J, O> {
+    fn new(setup: &'a Setup, sites: &'a Sites, journal: J, output: O) -> Replay<'a, J, O> {
         Replay {
             journal,
             output,
-            station: Station::new(),
-            desk: Desk::default(),
-            value: None,
+            sites,
+            stations: sites.stations.iter().map(|_| Station::new(setup)).collect(),
+            board: Board::new(sites),
+            desks: sites.areas.iter().map(|_| Desk::new(setup.rules)).collect(),
             segments: 0,
             counts: Counts::default(),
         }
@@ -531,9 +935,9 @@ impl<J: Write, O: Write> Replay<J, O> {
         let taken = packets.len();
         let mut kept = 0;
         for packet in packets {
-            if let Some(note) = self.station.take(packet) {
+            if let Some(note) = self.stations[packet.station].take(packet) {
                 kept += 1;
-                self.value = note.value;
+                self.board.values[note.station] = note.value;
                 self.write_note(self.counts.kept + kept, &note)?;
             }
         }
@@ -549,24 +953,38 @@ impl<J: Write, O: Write> Replay<J, O> {
     fn write_note(&mut self, n: usize, note: &Note) -> io::Result<()> {
         let Key { boot, number } = note.key;
         let run = if note.fresh { 'F' } else { 'C' };
+        let code = self.sites.stations[note.station].code;
         let (segment, value) = (self.segments, Field(note.value));
         writeln!(
             self.journal,
-            "E {n} {segment} {STATION} {boot} {number} {run} {value}"
+            "E {n} {segment} {code} {boot} {number} {run} {value}"
         )
     }
 
     fn write_section(&mut self, counts: Counts, refused: &[Refused]) -> io::Result<()> {
-        let (m, front, out) = (self.segments, self.counts.kept, &mut self.output);
-        writeln!(out, "M {m} {counts}")?;
+        writeln!(self.output, "M {} {counts}", self.segments)?;
         for Refused { record, fault } in refused {
-            writeln!(out, "X {record} {fault}")?;
+            writeln!(self.output, "X {record} {fault}")?;
         }
-        let class = self.value.map(Tenths::class);
-        writeln!(out, "R {m} a {front}")?;
-        writeln!(out, "P {m} t1 {} {}", Field(self.value), Field(class))?;
-        if let Some(alert) = self.desk.next(class) {
-            writeln!(out, "A {m} a {alert}")?;
+        let sites = self.sites;
+        for (number, area) in sites.areas.iter().enumerate() {
+            self.write_reading(number, area)?;
+        }
+        Ok(())
+    }
+
+    fn write_reading(&mut self, number: usize, area: &Area) -> io::Result<()> {
+        let (m, out) = (self.segments, &mut self.output);
+        writeln!(out, "R {m} {} {}", area.name, self.counts.kept)?;
+        let mut greatest = None;
+        for &target in &area.targets {
+            let value = self.board.predict(target);
+            let (name, class) = (&self.sites.targets[target].name, value.map(Tenths::class));
+            writeln!(out, "P {m} {name} {} {}", Field(value), Field(class))?;
+            greatest = greatest.max(class);
+        }
+        if let Some(alert) = self.desks[number].next(greatest) {
+            writeln!(out, "A {m} {} {alert}", area.name)?;
         }
         Ok(())
     }
@@ -579,11 +997,14 @@ impl<J: Write, O: Write> Replay<J, O> {
     }
 }
 
-fn replay(capture: &str, journal: &str) -> Result<(), Stop> {
+fn replay(paths: [&str; 5]) -> Result<(), Stop> {
+    let [setup, stations, targets, capture, journal] = paths;
+    let setup = read_setup(setup)?;
+    let sites = Sites::new(read_stations(stations)?, read_targets(targets)?);
     let journal = BufWriter::new(File::create(journal).map_err(Stop::Write)?);
     let output = BufWriter::new(io::stdout().lock());
-    let capture = read_capture(capture)?;
-    let mut replay = Replay::new(journal, output);
+    let capture = read_capture(&sites, capture)?;
+    let mut replay = Replay::new(&setup, &sites, journal, output);
     for segment in capture.segments {
         replay.work(segment).map_err(Stop::Write)?;
     }
@@ -596,14 +1017,10 @@ fn is_path(word: &str) -> bool {
 
 fn run() -> Result<(), Stop> {
     let words: Vec<String> = env::args().skip(1).collect();
-    let [command, paths @ ..] = words.as_slice() else {
-        return Err(Stop::Usage);
-    };
-    match paths {
-        [_, _, _, capture, journal]
-            if command == "replay" && paths.iter().all(|path| is_path(path)) =>
-        {
-            replay(capture, journal)
+    let words: Vec<&str> = words.iter().map(String::as_str).collect();
+    match words.as_slice() {
+        ["replay", paths @ ..] if paths.iter().all(|path| is_path(path)) => {
+            replay(paths.try_into().map_err(|_| Stop::Usage)?)
         }
         _ => Err(Stop::Usage),
     }
@@ -625,7 +1042,12 @@ mod tests {
 
     #[test]
     fn alerts_are_by_the_rules() {
-        let mut desk = Desk::default();
+        let rules = Rules {
+            raise: Class::C4,
+            cancel: Class::C3,
+            calm: 2,
+        };
+        let mut desk = Desk::new(rules);
         let greatest = [
             Some(40),
             Some(47),
@@ -646,5 +1068,34 @@ mod tests {
             Some(Alert::Raise(Class::C5Lower)),
         ];
         assert_eq!(alerts, wanted);
+    }
+
+    /// What a filter of one stage gives: b0, a1 and a division by two.
+    fn outputs<const N: usize>(b0: i64, a1: i64, nearest: bool, inputs: [i64; N]) -> [i64; N] {
+        let stage = Stage {
+            b0,
+            a1,
+            q: 1,
+            nearest,
+            ..Stage::default()
+        };
+        let mut filter = Filter::new(&[stage]);
+        inputs.map(|x| filter.step(x))
+    }
+
+    #[test]
+    fn a_stage_adds_up_and_is_cut() {
+        assert_eq!(outputs(2, -2, false, [5, 0, 0]), [5, 5, 5]);
+        let inputs = [GREATEST, GREATEST, -1];
+        assert_eq!(
+            outputs(2, -2, false, inputs),
+            [GREATEST, GREATEST, GREATEST - 1]
+        );
+    }
+
+    #[test]
+    fn halves_are_rounded_up_or_down() {
+        assert_eq!(outputs(1, 0, false, [-1, 1]), [-1, 0]);
+        assert_eq!(outputs(1, 0, true, [-1, 1]), [0, 1]);
     }
 }
