@@ -1,9 +1,10 @@
 -- A board, and the entries that were applied to it.
-use Rattle.std.specs.Prelude.{◌≡◌, ◌-◌, ◌^◌, ℕ, List, length, min, Option}
+use Rattle.std.specs.Prelude.{◌≡◌, ◌+◌, ◌-◌, ◌^◌, ℕ, List, [], ◌∷◌, ◌++◌, length, min, Option}
+use Rattle.std.specs.Prelude.{None, replicate}
 use Rattle.plum_base.specs.declared.entry.Entry.{Entry}
 use Rattle.plum_base.specs.declared.numbers.Tenths.{Tenths}
 use Rattle.plum_base.specs.Sites.{SitesView}
-use Rattle.plum_geo.specs.Shown.{AreShown}
+use Rattle.plum_geo.specs.Shown.{AreShown, shown_after}
 
 -- the sites of a board, what each station shows, and how many entries were applied
 pub record BoardView : Type 0 where
@@ -16,3 +17,25 @@ pub record StandsFor (board : BoardView) (sites : SitesView) (entries : List Ent
   pub same_sites : board.sites ≡ sites
   pub shown : AreShown board.values (length sites.stations) entries
   pub counted : board.count ≡ min (length entries) (2 ^ 64 - 1)
+
+-- the board of the empty history: no station shows a value
+abbrev pub new_board : SitesView → BoardView
+new_board sites = record {
+  sites = sites;
+  values = replicate (length sites.stations) None;
+  count = 0;
+}
+
+-- the board after an entry more
+abbrev pub board_after : BoardView → Entry → BoardView
+board_after board entry = record {
+  sites = board.sites;
+  values = shown_after board.values entry;
+  count = min (board.count + 1) (2 ^ 64 - 1);
+}
+
+-- A board after some entries, and an entry more: it is the board after all of them.
+abbrev pub StandsForOneMore : Type 0
+StandsForOneMore = (board : BoardView) (sites : SitesView) (entries : List Entry) (entry : Entry)
+    → StandsFor board sites entries
+    → StandsFor (board_after board entry) sites (entries ++ entry ∷ [])

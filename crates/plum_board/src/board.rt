@@ -5,7 +5,7 @@ ghost use Rattle.std.specs.Prelude.{IsSomeAnd};
 ghost use Rattle.plum_base.specs.declared.entry.Entry.{Entry};
 ghost use Rattle.plum_base.specs.Sites.{SitesView};
 ghost use Rattle.plum_geo.specs.Prediction.{IsPredictionOver};
-ghost use Rattle.plum_board.specs.Board.{StandsFor};
+ghost use Rattle.plum_board.specs.Board.{StandsFor, board_after, new_board};
 
 use plum_base::{Entry, NoMemory, Sites, TargetNo, Tenths};
 use plum_geo::Shown;
@@ -35,7 +35,8 @@ impl Model for Board {
 impl Board {
     /// The board of the empty history.
     pub fn new(alloc: Global, sites: &Sites) -> Result<Board, NoMemory>
-        ensures { IfOk result (λ board. StandsFor board sites.now []) }
+        ensures stands { IfOk result (λ board. StandsFor board sites.now []) }
+        ensures exact { IfOk result (λ board. board ≡ new_board sites.now) }
     {
         Ok(Board {
             sites: sites.copy(alloc)?,
@@ -47,6 +48,7 @@ impl Board {
     /// One entry more: its station shows its value from now on. An entry of a station that is not
     /// listed, or whose value is off the scale, changes the count alone.
     pub fn apply(&mut self, entry: &Entry)
+        ensures exact { self.new ≡ board_after self.old entry.now }
         ensures sites { self.new.sites ≡ self.old.sites }
         ensures stands { (sites : SitesView) (entries : List Entry)
             → StandsFor self.old sites entries

@@ -1,6 +1,6 @@
 //! What stations show, and predictions from it by a scan of all stations.
 
-ghost use Rattle.std.specs.Prelude.{◌≡◌, ◌<◌, ◌≤ℤ◌, ◌⊎◌, ℕ, List, [], ◌∷◌, ◌++◌, length, All};
+ghost use Rattle.std.specs.Prelude.{◌≡◌, ◌<◌, ◌≤ℤ◌, ◌⊎◌, ℕ, List, [], ◌∷◌, ◌++◌, length, All, replicate};
 ghost use Rattle.std.specs.Prelude.{Some, None, IfSome, IfNone, IsSomeAnd, IfOk, IsTrue};
 ghost use Rattle.plum_base.specs.declared.entry.Entry.{Entry};
 ghost use Rattle.plum_base.specs.declared.numbers.Tenths.{Tenths};
@@ -9,7 +9,7 @@ ghost use Rattle.plum_base.specs.Sites.{IsPlace, AreStations};
 ghost use Rattle.plum_geo.specs.Prediction.{none_or_on_scale, IsOnScale, IsNear, corrected};
 ghost use Rattle.plum_geo.specs.Prediction.{IsBest, plus_factor, IsPredictionOver};
 ghost use Rattle.plum_geo.specs.Corrected.{IsOnCorrectedScale};
-ghost use Rattle.plum_geo.specs.Shown.{value_in, AreShown};
+ghost use Rattle.plum_geo.specs.Shown.{value_in, AreShown, shown_after};
 
 use crate::distance::near;
 use crate::laws::near_stations_are_those_near;
@@ -38,7 +38,8 @@ impl Model for Shown {
 impl Shown {
     /// So many stations, of which none shows a value.
     pub fn new(alloc: Global, stations: usize) -> Result<Shown, NoMemory>
-        ensures { IfOk result (λ shown. AreShown shown stations []) }
+        ensures shown { IfOk result (λ shown. AreShown shown stations []) }
+        ensures exact { IfOk result (λ shown. shown ≡ replicate stations None) }
     {
         let values = vec![in alloc; None; stations]?;
         Ok(Shown { values })
@@ -50,6 +51,7 @@ impl Shown {
         ensures shown { (stations : ℕ) (entries : List Entry)
             → AreShown self.old stations entries
             → AreShown self.new stations (entries ++ entry.now ∷ []) }
+        ensures exact { self.new ≡ shown_after self.old entry.now }
         ensures count { length self.new ≡ length self.old }
     {
         let station = entry.station.0 as usize;
