@@ -1,0 +1,5 @@
+mod Adding
+mod Fronts
+mod Moves
+mod Growing
+mod Filling

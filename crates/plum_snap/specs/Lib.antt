@@ -1,0 +1,10 @@
+pub mod Fronts
+pub mod History
+pub mod Snapshots
+pub mod Rule
+pub mod Doors
+pub mod Publisher
+pub mod Numbers
+pub mod Sessions
+pub mod Lent
+pub mod Refused
