@@ -1,23 +1,32 @@
 -- The threshold table (the project's own; the tenths it cuts are those of the JMA scale).
-use Rattle.std.specs.Prelude.{◌≡◌, ◌≢◌, ℕ, ◌-◌, ◌*◌, ◌^◌, ◌<◌, ◌≤◌, pos, neg_ℤ, ◌≤ℤ◌, List, []}
-use Rattle.std.specs.Prelude.{length, slice_index}
+use Rattle.std.specs.Prelude.{◌≡◌, ◌≢◌, ℕ, ◌-◌, ◌*◌, ◌^◌, ◌<◌, ◌≤◌, List, [], length, slice_index}
 use Rattle.plum_base.specs.declared.numbers.Tenths.{Tenths}
 use Rattle.plum_base.specs.declared.levels.LevelFault.{LevelFault}
 use Rattle.plum_base.specs.declared.levels.LevelFault.TheVariants as faults
+use Rattle.plum_base.specs.Bounds.{IsUpTo}
 
 -- squared amplitudes, and the tenth at which level 0 stands
 pub record LevelsView : Type 0 where
   pub thresholds : List ℕ
   pub base : Tenths
 
--- three components of 2^30
-abbrev pub greatest_amplitude : ℕ
-greatest_amplitude = 3 * 2 ^ 60
+-- the greatest squared amplitude: three components of 2^30
+abbrev pub GREATEST_AMPLITUDE : ℕ
+GREATEST_AMPLITUDE = 3 * 2 ^ 60
+
+-- how many thresholds a table has at most
+abbrev pub MOST_LEVELS : ℕ
+MOST_LEVELS = 128
+
+-- the greatest site factor, and the greatest base, in tenths
+abbrev pub GREATEST_FACTOR : ℕ
+GREATEST_FACTOR = 100
 
 -- site factors and the base: -100 to 100 tenths
 abbrev pub IsFactor : Tenths → Type 0
-IsFactor t = (neg_ℤ (pos 100) ≤ℤ t.0) × (t.0 ≤ℤ pos 100)
+IsFactor t = IsUpTo GREATEST_FACTOR t.0
 
+-- There is a first entry, and it is 0.
 abbrev pub StartsAtZero : List ℕ → Type 0
 StartsAtZero ts = (0 < length ts) × (slice_index ts 0 ≡ 0)
 
@@ -27,10 +36,11 @@ RisesUpTo ts n = (i : ℕ) → 0 < i → i < n → slice_index ts (i - 1) < slic
 
 -- none of the first n entries is above what three components can give
 abbrev pub IsWithinUpTo : List ℕ → ℕ → Type 0
-IsWithinUpTo ts n = (i : ℕ) → i < n → slice_index ts i ≤ greatest_amplitude
+IsWithinUpTo ts n = (i : ℕ) → i < n → slice_index ts i ≤ GREATEST_AMPLITUDE
 
+-- one threshold or more, not too many, from 0 and rising, and a base in its range
 pub record IsLevelTable (t : LevelsView) : Type 0 where
-  pub few : length t.thresholds ≤ 128
+  pub few : length t.thresholds ≤ MOST_LEVELS
   pub start : StartsAtZero t.thresholds
   pub rises : RisesUpTo t.thresholds (length t.thresholds)
   pub within : IsWithinUpTo t.thresholds (length t.thresholds)
@@ -47,7 +57,7 @@ IsFirstLevelFault t (faults.Order i) =
 IsFirstLevelFault t (faults.Above i) =
     StartsAtZero t.thresholds × RisesUpTo t.thresholds (length t.thresholds)
     × IsWithinUpTo t.thresholds i
-    × (i < length t.thresholds) × (greatest_amplitude < slice_index t.thresholds i)
+    × (i < length t.thresholds) × (GREATEST_AMPLITUDE < slice_index t.thresholds i)
 IsFirstLevelFault t faults.Base =
     StartsAtZero t.thresholds × RisesUpTo t.thresholds (length t.thresholds)
     × IsWithinUpTo t.thresholds (length t.thresholds) × (¬ IsFactor t.base)

@@ -1,7 +1,9 @@
+pub mod Bounds
 pub mod Name
 pub mod Cascade
 pub mod Levels
 pub mod Setup
 pub mod Lane
 pub mod Sites
+pub mod Packet
 pub mod Counts

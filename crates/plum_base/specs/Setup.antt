@@ -1,8 +1,10 @@
 -- The ranges of a setup's numbers (the project's own).
 use Rattle.std.specs.Prelude.{ℕ, ◌^◌, ◌≤◌}
+use Rattle.plum_base.specs.declared.bounds.Bounds.{Bounds}
 use Rattle.plum_base.specs.declared.rules.Class.{Class}
 use Rattle.plum_base.specs.declared.rules.Class.TheVariants.{C0, C1, C2, C3, C4, C5Lower, C5Upper}
 use Rattle.plum_base.specs.declared.rules.Class.TheVariants.{C6Lower, C6Upper, C7}
+use Rattle.plum_base.specs.Bounds.{IsWithin}
 
 -- the rank of a class on the JMA scale, from the weakest
 abbrev pub rank_of : Class → ℕ
@@ -17,15 +19,39 @@ rank_of C6Lower = 7
 rank_of C6Upper = 8
 rank_of C7 = 9
 
+-- the bounds of a gain's g
+abbrev pub GAIN_G : Bounds
+GAIN_G = record { low = 1; high = 2 ^ 31 }
+
+-- the bounds of its h
+abbrev pub GAIN_H : Bounds
+GAIN_H = record { low = 0; high = 31 }
+
+-- of how many calm readings in a row cancel an alert
+abbrev pub CALM : Bounds
+CALM = record { low = 1; high = 1000 }
+
+-- of how many lanes there are
+abbrev pub LANES : Bounds
+LANES = record { low = 1; high = 16 }
+
+-- of how many entries the queue holds
+abbrev pub QUEUE : Bounds
+QUEUE = record { low = 1; high = 65536 }
+
 -- counts times g, divided by 2^h
 abbrev pub IsGain : ℕ → ℕ → Type 0
-IsGain g h = (1 ≤ g) × (g ≤ 2 ^ 31) × (h ≤ 31)
+IsGain g h = (GAIN_G.low ≤ g) × (g ≤ GAIN_G.high) × (h ≤ GAIN_H.high)
 
+-- The cancel class is not above the raise class, and the calm readings are within their bounds.
 abbrev pub AreRules : Class → Class → ℕ → Type 0
-AreRules raise cancel calm = (rank_of cancel ≤ rank_of raise) × (1 ≤ calm) × (calm ≤ 1000)
+AreRules raise cancel calm =
+    (rank_of cancel ≤ rank_of raise) × (CALM.low ≤ calm) × (calm ≤ CALM.high)
 
+-- There may be so many lanes.
 abbrev pub IsLaneCount : ℕ → Type 0
-IsLaneCount lanes = (1 ≤ lanes) × (lanes ≤ 16)
+IsLaneCount lanes = IsWithin LANES lanes
 
+-- The queue may hold so many entries.
 abbrev pub IsQueueBound : ℕ → Type 0
-IsQueueBound queue = (1 ≤ queue) × (queue ≤ 65536)
+IsQueueBound queue = IsWithin QUEUE queue

@@ -11,15 +11,21 @@ use Rattle.plum_base.specs.declared.sites.StationSite.{StationSite}
 use Rattle.plum_base.specs.declared.sites.TargetSite.{TargetSite}
 use Rattle.plum_base.specs.Levels.{IsFactor}
 
--- how many stations, targets and areas there are at most
+-- how many stations there are at most
 abbrev pub MOST_STATIONS : ℕ
 MOST_STATIONS = 4096
 
+-- how many targets
 abbrev pub MOST_TARGETS : ℕ
 MOST_TARGETS = 8192
 
+-- how many areas
 abbrev pub MOST_AREAS : ℕ
 MOST_AREAS = 64
+
+-- how many codes there are: sixteen bits
+abbrev pub CODES : ℕ
+CODES = 65536
 
 -- the greatest coordinate of the grid, in metres
 abbrev pub GRID_END : ℤ
@@ -62,26 +68,43 @@ NewAreasComeLast = (targets : List TargetSite) (t : TargetSite)
 abbrev pub targets_of : List ℕ → List TargetSite → List TargetSite
 targets_of area targets = filter (λ t. bytes_eq t.area area) targets
 
+-- No two stations have one code.
+abbrev pub AreCodesDistinct : List StationSite → Type 0
+AreCodesDistinct stations = AllPairs (λ a b. a.code ≢ b.code) stations
+
+-- No two targets have one name.
+abbrev pub AreNamesDistinct : List TargetSite → Type 0
+AreNamesDistinct targets = AllPairs (λ a b. a.name ≢ b.name) targets
+
 -- Stations: not too many, each on the grid and with a factor in its range, no two of one code.
 pub record AreStations (stations : List StationSite) : Type 0 where
   pub few : length stations ≤ MOST_STATIONS
   pub in_range : All (λ s. IsPlace s.at × IsFactor s.factor) stations
-  pub codes : AllPairs (λ a b. a.code ≢ b.code) stations
+  pub codes : AreCodesDistinct stations
 
 -- Targets: not too many, of not too many areas, each on the grid and with a factor in its range, no
 -- two of one name.
 pub record AreTargets (targets : List TargetSite) : Type 0 where
   pub few : length targets ≤ MOST_TARGETS
   pub in_range : All (λ t. IsPlace t.at × IsFactor t.factor) targets
-  pub names : AllPairs (λ a b. a.name ≢ b.name) targets
+  pub names : AreNamesDistinct targets
   pub few_areas : length (areas_of targets) ≤ MOST_AREAS
 
+-- Both lists are lawful.
 abbrev pub AreLawful : List StationSite → List TargetSite → Type 0
 AreLawful stations targets = AreStations stations × AreTargets targets
 
 -- the n-th station, from 0, has this code
 abbrev pub HasCode : List StationSite → ℕ → ℕ → Type 0
 HasCode stations n code = IsSomeAnd (slice_get stations n) (λ s. s.code ≡ code)
+
+-- Some station has this code.
+abbrev pub IsCodeTaken : List StationSite → ℕ → Type 0
+IsCodeTaken stations code = Any (λ s. s.code ≡ code) stations
+
+-- Some target has this name.
+abbrev pub IsNameTaken : List TargetSite → List ℕ → Type 0
+IsNameTaken targets name = Any (λ t. t.name ≡ name) targets
 
 -- No station has this code.
 abbrev pub HasNoCode : List StationSite → ℕ → Type 0
@@ -92,11 +115,11 @@ abbrev pub IsFoundAt : List StationSite → ℕ → Option StationNo → Type 0
 IsFoundAt stations code None = HasNoCode stations code
 IsFoundAt stations code (Some n) = HasCode stations n.0 code
 
--- the table has at each code, of sixteen bits, what is found there
+-- the table has at each code what is found there
 abbrev pub AreByCode : List StationSite → List (Option StationNo) → Type 0
 AreByCode stations table =
-    (length table ≡ 65536) × ((code : ℕ) → code < 65536
-    → IsFoundAt stations code (slice_index_or table code None))
+    (length table ≡ CODES)
+    × ((code : ℕ) → code < CODES → IsFoundAt stations code (slice_index_or table code None))
 
 -- the numbers, target by target, are those of the targets' areas
 abbrev pub AreNumbered : List TargetSite → List AreaNo → Type 0

@@ -23,6 +23,7 @@ impl Model for Answers {
 }
 
 impl Answers {
+    /// No answers.
     pub fn new(alloc: Global) -> Result<Answers, NoMemory>
         ensures { IfOk result (λ a. a ≡ []) }
     {
@@ -56,6 +57,7 @@ impl Answers {
         self.items[i as usize] = answer;
     }
 
+    /// The answers, in file order of their targets.
     pub fn as_slice(&self) -> &[Option<Tenths>]
         ensures { result.now ≡ self.now }
     {

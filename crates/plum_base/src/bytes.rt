@@ -21,6 +21,7 @@ impl Model for Bytes {
 }
 
 impl Bytes {
+    /// No bytes.
     pub fn new(alloc: Global) -> Result<Bytes, NoMemory>
         ensures { IfOk result (λ b. b ≡ []) }
     {
@@ -38,6 +39,7 @@ impl Bytes {
         Ok(())
     }
 
+    /// The bytes, in order.
     pub fn as_slice(&self) -> &[u8]
         ensures { result.now ≡ self.now }
     {

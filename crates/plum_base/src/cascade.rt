@@ -4,8 +4,18 @@ ghost use Rattle.std.specs.Prelude.{◌≡◌, ◌↔◌, ◌<◌, ℕ, All, sli
 ghost use Rattle.std.specs.Prelude.{IfErr, IfSome, IfNone};
 ghost use Rattle.plum_base.specs.Cascade.{IsCoefficient, IsStage, IsCascade, IsFirstCascadeFault};
 
+use crate::bounds::Bounds;
 use arrayvec::ArrayVec;
 use std::marker::Model;
+
+/// The greatest coefficient. The least is its negative.
+pub const GREATEST_COEFFICIENT: i32 = 1 << 30;
+
+/// The bounds of a stage's `q`.
+pub const STAGE_Q: Bounds = Bounds { low: 1, high: 30 };
+
+/// The most stages of a cascade.
+pub const MOST_STAGES: usize = 8;
 
 /// How a stage rounds: down, or to the nearest with halves up.
 #[derive(Clone, Copy, Debug, Default, PartialEq, Eq)]
@@ -56,7 +66,7 @@ impl Model for Cascade {
 fn is_coefficient(b: i32) -> bool
     ensures { IsTrue result ↔ IsCoefficient b }
 {
-    -(1 << 30) <= b && b <= 1 << 30
+    -GREATEST_COEFFICIENT <= b && b <= GREATEST_COEFFICIENT
 }
 
 fn are_coefficients(bs: &[i32]) -> bool
@@ -69,7 +79,7 @@ fn are_coefficients(bs: &[i32]) -> bool
 fn is_in_range(s: &Stage) -> bool
     ensures { IsTrue result ↔ IsStage s.now }
 {
-    are_coefficients(&[s.b0, s.b1, s.b2, s.a1, s.a2]) && 1 <= s.q && s.q <= 30
+    are_coefficients(&[s.b0, s.b1, s.b2, s.a1, s.a2]) && STAGE_Q.hold(u32::from(s.q))
 }
 
 /// The first stage with a number out of its range.
@@ -101,6 +111,7 @@ impl Cascade {
         }
     }
 
+    /// The stages, in that order.
     pub fn stages(&self) -> &[Stage]
         ensures value { result.now ≡ self.now }
         ensures cascade { IsCascade self.now }

@@ -2,12 +2,18 @@
 
 ghost use Rattle.std.specs.Prelude.{◌≡◌, ◌-◌, ◌<◌, ◌≤◌, length, slice_index, IfOk, IfErr, IfSome};
 ghost use Rattle.std.specs.Prelude.{IfNone};
-ghost use Rattle.plum_base.specs.Levels.{RisesUpTo, IsWithinUpTo, greatest_amplitude};
+ghost use Rattle.plum_base.specs.Levels.{RisesUpTo, IsWithinUpTo, GREATEST_AMPLITUDE};
 ghost use Rattle.plum_base.specs.Levels.{IsLevelTable, IsFirstLevelFault};
 
 use crate::numbers::Tenths;
 use arrayvec::ArrayVec;
 use std::marker::Model;
+
+/// The greatest squared amplitude: three components of 2^30.
+pub const GREATEST_AMPLITUDE: u64 = 3 << 60;
+
+/// The most thresholds of a table.
+pub const MOST_LEVELS: usize = 128;
 
 /// What is wrong first with a table: no entry, entry 0 is not 0, the entry at that position is the
 /// first not greater than its predecessor, the first above 3 * 2^60, or the base is out of -100 to
@@ -43,9 +49,6 @@ impl Model for Levels {
     }) };
 }
 
-/// The greatest squared amplitude: three components of 2^30.
-const GREATEST: u64 = 3 << 60;
-
 /// The first entry that is not greater than its predecessor.
 fn first_not_rising(thresholds: &[u64]) -> Option<usize>
     ensures found { IfSome result (λ i. (0 < i) × (i < length thresholds.now)
@@ -64,11 +67,11 @@ fn first_not_rising(thresholds: &[u64]) -> Option<usize>
 /// The first entry above the greatest squared amplitude.
 fn first_above(thresholds: &[u64]) -> Option<usize>
     ensures found { IfSome result (λ i. (i < length thresholds.now) × IsWithinUpTo thresholds.now i
-        × (greatest_amplitude < slice_index thresholds.now i)) }
+        × (GREATEST_AMPLITUDE < slice_index thresholds.now i)) }
     ensures none { IfNone result (IsWithinUpTo thresholds.now (length thresholds.now)) }
 {
     for (i, threshold) in thresholds.iter().enumerate() {
-        if *threshold > GREATEST {
+        if *threshold > GREATEST_AMPLITUDE {
             return Some(i);
         }
     }
@@ -100,6 +103,7 @@ impl Levels {
         Ok(Levels { thresholds, base })
     }
 
+    /// The thresholds, in squared filtered units.
     pub fn thresholds(&self) -> &[u64]
         ensures value { result.now ≡ self.now.thresholds }
         ensures table { IsLevelTable self.now }
@@ -107,6 +111,7 @@ impl Levels {
         self.thresholds.as_slice()
     }
 
+    /// The tenths for which level 0 stands.
     pub fn base(&self) -> Tenths
         ensures value { result ≡ self.now.base }
         ensures table { IsLevelTable self.now }

@@ -56,6 +56,7 @@ impl Name {
         copy
     }
 
+    /// The bytes of the name.
     pub fn as_slice(&self) -> &[u8]
         ensures value { result.now ≡ self.now }
         ensures name { IsName self.now }

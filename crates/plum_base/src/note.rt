@@ -34,6 +34,7 @@ impl Model for Notes {
 }
 
 impl Notes {
+    /// No notes.
     pub fn new(alloc: Global) -> Result<Notes, NoMemory>
         ensures { IfOk result (λ n. n ≡ []) }
     {
@@ -58,6 +59,7 @@ impl Notes {
         self.items.clear();
     }
 
+    /// The notes, in the order of the journal.
     pub fn as_slice(&self) -> &[Note]
         ensures { result.now ≡ self.now }
     {

@@ -20,6 +20,10 @@ pub struct AreaNo(pub u16);
 #[derive(Clone, Copy, Debug, PartialEq, Eq)]
 pub struct LaneNo(pub u16);
 
+/// The greatest site factor, and the greatest base of a threshold table, in tenths. The least is
+/// its negative.
+pub const GREATEST_FACTOR: i16 = 100;
+
 /// An intensity or a site factor, in tenths.
 #[derive(Clone, Copy, Debug, PartialEq, Eq, PartialOrd, Ord)]
 pub struct Tenths(pub i16);
@@ -29,7 +33,7 @@ impl Tenths {
     pub fn is_factor(self) -> bool
         ensures { IsTrue result ↔ IsFactor self }
     {
-        -100 <= self.0 && self.0 <= 100
+        -GREATEST_FACTOR <= self.0 && self.0 <= GREATEST_FACTOR
     }
 }
 

@@ -2,9 +2,31 @@
 
 ghost use Rattle.plum_base.specs.Setup.{IsGain, AreRules, IsLaneCount, IsQueueBound};
 
+use crate::bounds::Bounds;
 use crate::cascade::Cascade;
 use crate::levels::Levels;
 use crate::rules::Rules;
+
+/// The bounds of a gain's `g`.
+pub const GAIN_G: Bounds = Bounds {
+    low: 1,
+    high: 1 << 31,
+};
+
+/// The bounds of a gain's `h`.
+pub const GAIN_H: Bounds = Bounds { low: 0, high: 31 };
+
+/// The bounds of how many calm readings in a row cancel an alert.
+pub const CALM: Bounds = Bounds { low: 1, high: 1000 };
+
+/// The bounds of how many lanes there are.
+pub const LANES: Bounds = Bounds { low: 1, high: 16 };
+
+/// The bounds of how many entries the queue holds.
+pub const QUEUE: Bounds = Bounds {
+    low: 1,
+    high: 65_536,
+};
 
 /// From counts to filtered units: times `g`, divided by 2^`h`.
 #[derive(Clone, Copy, Debug, PartialEq, Eq)]

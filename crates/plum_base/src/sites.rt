@@ -1,11 +1,12 @@
 //! The stations and the targets of a centre.
 
-ghost use Rattle.std.specs.Prelude.{◌≡◌, ◌≢◌, ◌↔◌, ◌<◌, ◌≤◌, length, slice_get, All, AllPairs, Any};
+ghost use Rattle.std.specs.Prelude.{◌≡◌, ◌≢◌, ◌↔◌, ◌<◌, ◌≤◌, length, slice_get, All, Any};
 ghost use Rattle.std.specs.Prelude.{IsTrue, IfOk, Some, IfSome, IfNone, IsSomeAnd};
 ghost use Rattle.std.specs.List.{HoldsAt};
 ghost use Rattle.plum_base.specs.Levels.{IsFactor};
 ghost use Rattle.plum_base.specs.Sites.{IsPlace, areas_of, AreNumbered, AreStations, AreTargets};
-ghost use Rattle.plum_base.specs.Sites.{AreLawful, HasCode, HasNoCode};
+ghost use Rattle.plum_base.specs.Sites.{AreCodesDistinct, AreNamesDistinct, AreLawful};
+ghost use Rattle.plum_base.specs.Sites.{HasCode, HasNoCode, IsCodeTaken, IsNameTaken};
 
 use crate::codes::stations_by_code;
 use crate::memory::NoMemory;
@@ -31,11 +32,13 @@ pub struct TargetSite {
     pub factor: Tenths,
 }
 
-/// The most stations, targets and areas of a centre.
+/// The most stations of a centre.
 pub const MOST_STATIONS: usize = 4096;
 
+/// The most targets of a centre.
 pub const MOST_TARGETS: usize = 8192;
 
+/// The most areas of a centre's targets.
 pub const MOST_AREAS: usize = 64;
 
 /// At most 4,096 stations of distinct codes and 8,192 targets of distinct names in 64 areas, all on
@@ -111,6 +114,7 @@ impl Sites {
         self.by_code[usize::from(code)]
     }
 
+    /// The stations, in the order of their file.
     pub fn stations(&self) -> &[StationSite]
         ensures value { result.now ≡ self.now.stations }
         ensures lawful { AreLawful self.now.stations self.now.targets }
@@ -118,6 +122,7 @@ impl Sites {
         self.stations.as_slice()
     }
 
+    /// The targets, in the order of their file.
     pub fn targets(&self) -> &[TargetSite]
         ensures value { result.now ≡ self.now.targets }
         ensures lawful { AreLawful self.now.stations self.now.targets }
@@ -150,7 +155,8 @@ impl Sites {
     }
 }
 
-fn is_among(areas: &[Name], area: &Name) -> bool
+/// Whether this is one of the areas.
+pub fn is_among(areas: &[Name], area: &Name) -> bool
     ensures { IsTrue result ↔ Any (λ a. a ≡ area.now) areas.now }
 {
     areas.iter().any(|a| *a == *area)
@@ -240,18 +246,21 @@ fn are_targets_in_range(targets: &[TargetSite]) -> bool
         .all(|t| t.at.is_on_grid() && t.factor.is_factor())
 }
 
-fn has_code(stations: &[StationSite], code: u16) -> bool
-    ensures { IsTrue result ↔ Any (λ s. s.code ≡ code) stations.now }
+/// Whether one of the stations has this code.
+pub fn has_code(stations: &[StationSite], code: u16) -> bool
+    ensures { IsTrue result ↔ IsCodeTaken stations.now code }
 {
     stations.iter().any(|s| s.code == code)
 }
 
-fn has_name(targets: &[TargetSite], name: &Name) -> bool
-    ensures { IsTrue result ↔ Any (λ t. t.name ≡ name.now) targets.now }
+/// Whether one of the targets has this name.
+pub fn has_name(targets: &[TargetSite], name: &Name) -> bool
+    ensures { IsTrue result ↔ IsNameTaken targets.now name.now }
 {
     targets.iter().any(|t| t.name == *name)
 }
 
+/// Whether one of the targets is of this area.
 fn has_area(targets: &[TargetSite], area: &Name) -> bool
     ensures { IsTrue result ↔ Any (λ t. t.area ≡ area.now) targets.now }
 {
@@ -261,7 +270,7 @@ fn has_area(targets: &[TargetSite], area: &Name) -> bool
 // The lists are read once, when the centre starts, so comparing each member with all before it is
 // fast enough, and it needs no memory.
 fn are_codes_distinct(stations: &[StationSite]) -> bool
-    ensures { IsTrue result ↔ AllPairs (λ a b. a.code ≢ b.code) stations.now }
+    ensures { IsTrue result ↔ AreCodesDistinct stations.now }
 {
     for (i, station) in stations.iter().enumerate() {
         if has_code(&stations[..i], station.code) {
@@ -272,7 +281,7 @@ fn are_codes_distinct(stations: &[StationSite]) -> bool
 }
 
 fn are_names_distinct(targets: &[TargetSite]) -> bool
-    ensures { IsTrue result ↔ AllPairs (λ a b. a.name ≢ b.name) targets.now }
+    ensures { IsTrue result ↔ AreNamesDistinct targets.now }
 {
     for (i, target) in targets.iter().enumerate() {
         if has_name(&targets[..i], &target.name) {

@@ -36,6 +36,7 @@ impl Wave {
     /// The longest wave, in samples.
     pub const MAX: usize = 6_000;
 
+    /// No samples.
     pub fn new(alloc: Global) -> Result<Wave, NoMemory>
         ensures { IfOk result (λ w. w ≡ []) }
     {
@@ -63,6 +64,7 @@ impl Wave {
         Ok(())
     }
 
+    /// The samples, the oldest first.
     pub fn as_slice(&self) -> &[Sample]
         ensures value { result.now ≡ self.now }
         ensures bound { length self.now ≤ Self.MAX }

@@ -1,5 +1,5 @@
 -- Histories: the entries of kept packets, in order (the project's own).
-use Rattle.std.specs.Prelude.{◌≡◌, ◌≢◌, ℕ, ◌<◌, true, ◌==◌, List, [], ◌∷◌, ◌++◌, map, filter, All}
+use Rattle.std.specs.Prelude.{◌≡◌, ◌≢◌, ℕ, ◌<◌, true, ◌==◌, List, [], ◌∷◌, ◌++◌, map, filter}
 use Rattle.std.specs.Prelude.{AllPairs}
 use Rattle.plum_base.specs.declared.entry.Entry.{Entry}
 use Rattle.plum_base.specs.declared.packet.Packet.{Packet}
@@ -53,7 +53,3 @@ HoldsKept history packets = map packet_of history ≡ kept packets
 -- No station has two entries of one key.
 abbrev pub IsEachOnce : List Entry → Type 0
 IsEachOnce history = AllPairs (λ a b. a.station ≡ b.station → a.key ≢ b.key) history
-
--- All packets are of listed stations, where there are this many.
-abbrev pub AreListed : ℕ → List Packet → Type 0
-AreListed stations packets = All (λ p. p.station.0 < stations) packets

@@ -1,5 +1,5 @@
 -- The greatest amplitude.
-use Rattle.std.proofs.Common.{◌≡◌, ℕ, ◌*◌, ◌^◌, ◌<◌, ◌≤◌, ℤ, pos, ◌*ℤ◌, List, [], ◌∷◌, length}
+use Rattle.std.proofs.Common.{◌≡◌, ℕ, ◌^◌, ◌<◌, ◌≤◌, ℤ, pos, ◌*ℤ◌, List, [], ◌∷◌, length}
 use Rattle.std.proofs.Common.{get_or, nat_abs, sym, subst, arith, inl, inr}
 use Rattle.std.proofs.Math.Nat.{mul-le-mul}
 use Rattle.std.proofs.lemmas.Bool.{cases_lt}
@@ -9,6 +9,7 @@ use Rattle.std.specs.Int.{int_div_euclid}
 use Rattle.plum_base.specs.declared.cascade.Stage.{Stage}
 use Rattle.plum_base.specs.declared.setup.Setup.{Setup}
 use Rattle.plum_base.specs.declared.wave.Sample.{Sample}
+use Rattle.plum_base.specs.Levels.{GREATEST_AMPLITUDE}
 use Rattle.plum_filter.specs.Stage.{IsTerm, clamped, rounded, weighted, answer_to, term}
 use Rattle.plum_filter.specs.Stage.{delayed, stage_output, cascade_output, OutputIs}
 use Rattle.plum_engine.specs.Signal.{signal_of, signals_of, filtered, square, amplitude_at}
@@ -82,7 +83,7 @@ module _ (output_is : OutputIs) (setup : Setup) (run : List Sample) where
           (clamped-term (int_div_euclid (count *ℤ pos gain.g) (pos (2 ^ gain.h))))
 
   -- the amplitude at an index
-  amplitude-bound : (n : ℕ) → amplitude_at setup run n ≤ 3 * 2 ^ 60
+  amplitude-bound : (n : ℕ) → amplitude_at setup run n ≤ GREATEST_AMPLITUDE
   amplitude-bound n =
       let x = square-bound _ (AreTerms-filtered (λ s. s.x) n) in
       let y = square-bound _ (AreTerms-filtered (λ s. s.y) n) in

@@ -7,6 +7,7 @@ use Rattle.std.specs.Int.{int_div_euclid}
 use Rattle.plum_base.specs.declared.setup.Gain.{Gain}
 use Rattle.plum_base.specs.declared.setup.Setup.{Setup}
 use Rattle.plum_base.specs.declared.wave.Sample.{Sample}
+use Rattle.plum_base.specs.Levels.{GREATEST_AMPLITUDE}
 use Rattle.plum_filter.specs.Stage.{clamped, term, cascade_output}
 
 -- The gain rule: count * g / 2^h, rounded down and clamped. (At a positive divisor Euclid's
@@ -52,4 +53,4 @@ AmplitudeAtEach = (setup : Setup) (run : List Sample) (n : ℕ) → n < length r
 -- None is above three squares of the greatest term, so each fits 64 bits.
 abbrev pub AmplitudesAreBounded : Type 0
 AmplitudesAreBounded = (setup : Setup) (run : List Sample) (n : ℕ) → n < length run
-    → slice_index (amplitudes_of setup run) n ≤ 3 * 2 ^ 60
+    → slice_index (amplitudes_of setup run) n ≤ GREATEST_AMPLITUDE

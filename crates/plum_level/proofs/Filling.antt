@@ -10,7 +10,7 @@ use Rattle.std.proofs.lemmas.List.Sums.{prefix_len_is, prefix_len_passes, prefix
 use Rattle.std.specs.List.Sorted.{IsNonDecreasing}
 use Rattle.plum_base.specs.Levels.{LevelsView, IsLevelTable}
 use Rattle.plum_level.specs.Level.{sample_level}
-use Rattle.plum_level.specs.Tallies.{MOST_LEVELS}
+use Rattle.plum_base.specs.Levels.{MOST_LEVELS}
 use Rattle.plum_level.specs.Thresholds.{IsFilled}
 use Rattle.plum_level.proofs.Samples.{IsNonDecreasing-from_rises, reached_by}
 

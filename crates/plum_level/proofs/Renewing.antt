@@ -11,7 +11,8 @@ use Rattle.std.proofs.lemmas.List.Folds.{sum_by-replicate}
 use Rattle.std.proofs.lemmas.List.Sums.{sum_by-cons, sum_by_push, sum_by-le-sum_by}
 use Rattle.std.proofs.lemmas.List.Sums.{count_by-le-length}
 use Rattle.plum_level.specs.Level.{WINDOW, last_minute}
-use Rattle.plum_level.specs.Tallies.{MOST_LEVELS, from_level, one_less, renewed, AreCountsOf}
+use Rattle.plum_base.specs.Levels.{MOST_LEVELS}
+use Rattle.plum_level.specs.Tallies.{from_level, one_less, renewed, AreCountsOf}
 use Rattle.plum_level.proofs.Counting.{from_level-step, from_level-one_more, from_level-one_less}
 use Rattle.plum_level.proofs.Minutes.{last_minute_short}
 

@@ -9,7 +9,8 @@ use Rattle.plum_base.specs.Levels.{LevelsView, StartsAtZero, RisesUpTo}
 use Rattle.plum_level.specs.declared.tally.Tally.{Tally}
 use Rattle.plum_level.specs.Level.{WINDOW, ENOUGH, last_minute, reaching, sample_level, IsLevel}
 use Rattle.plum_level.specs.Level.{IsLevelOfRun}
-use Rattle.plum_level.specs.Tallies.{MOST_LEVELS, from_level, renewed, IsSettled}
+use Rattle.plum_base.specs.Levels.{MOST_LEVELS}
+use Rattle.plum_level.specs.Tallies.{from_level, renewed, IsSettled}
 use Rattle.plum_level.specs.Window.{WindowView, IsWindow, StandsFor}
 use Rattle.plum_level.proofs.Counting.{from_level-falls}
 use Rattle.plum_level.proofs.Minutes.{length-last_minute, last_minute-push}

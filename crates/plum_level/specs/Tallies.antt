@@ -1,21 +1,19 @@
 -- How many samples have each level, and the greatest level that enough of them have.
 use Rattle.std.specs.Prelude.{◌≡◌, ℕ, ◌+◌, ◌-◌, ◌<◌, ◌≤◌, nat_le, List, length, drop, sum}
 use Rattle.std.specs.Prelude.{slice_index, slice_set, count_by, Option, Some, None}
+use Rattle.plum_base.specs.Levels.{MOST_LEVELS}
 use Rattle.plum_level.specs.Level.{ENOUGH}
 use Rattle.plum_level.specs.declared.tally.Tally.{Tally}
-
--- how many levels a table has at most
-abbrev pub MOST_LEVELS : ℕ
-MOST_LEVELS = 128
 
 -- how many samples have this level or a higher one
 abbrev pub from_level : List ℕ → ℕ → ℕ
 from_level counts k = sum (drop k counts)
 
--- one sample more, or less, of this level
+-- one sample more of this level
 abbrev pub one_more : List ℕ → ℕ → List ℕ
 one_more counts level = slice_set counts level (slice_index counts level + 1)
 
+-- one sample less of it
 abbrev pub one_less : List ℕ → ℕ → List ℕ
 one_less counts level = slice_set counts level (slice_index counts level - 1)
 

@@ -2,7 +2,8 @@
 use Rattle.std.specs.Prelude.{◌≡◌, ℕ, ◌≤◌, List, length, map}
 use Rattle.plum_base.specs.Levels.{LevelsView, StartsAtZero, RisesUpTo}
 use Rattle.plum_level.specs.Level.{WINDOW, last_minute, sample_level}
-use Rattle.plum_level.specs.Tallies.{MOST_LEVELS, AreCountsOf, IsSettled}
+use Rattle.plum_base.specs.Levels.{MOST_LEVELS}
+use Rattle.plum_level.specs.Tallies.{AreCountsOf, IsSettled}
 use Rattle.plum_level.specs.declared.tally.Tally.{Tally}
 
 -- what a window shows: its table, and the level of each sample of the last minute

@@ -2,11 +2,11 @@
 
 ghost use Rattle.std.specs.Prelude.{◌≡◌, ◌+◌, ◌-◌, ◌<◌, ◌≤◌, slice_index, sum, replicate, IfSome};
 ghost use Rattle.plum_level.specs.Level.{WINDOW, ENOUGH};
-ghost use Rattle.plum_level.specs.Tallies.{MOST_LEVELS, from_level, one_more, one_less, renewed};
+ghost use Rattle.plum_base.specs.Levels.{MOST_LEVELS};
+ghost use Rattle.plum_level.specs.Tallies.{from_level, one_more, one_less, renewed};
 ghost use Rattle.plum_level.specs.Tallies.{IsTally, IsSettled};
 
-/// How many levels a table has at most.
-pub(crate) const MOST_LEVELS: usize = 128;
+use plum_base::MOST_LEVELS;
 
 /// How many samples must reach a threshold: 0.3 seconds.
 pub(crate) const ENOUGH: usize = 30;

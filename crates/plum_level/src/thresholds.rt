@@ -4,10 +4,9 @@ ghost use Rattle.std.specs.Prelude.{◌≡◌, ◌<◌};
 ghost use Rattle.std.specs.List.Sorted.{IsNonDecreasing};
 ghost use Rattle.plum_base.specs.Levels.{IsLevelTable};
 ghost use Rattle.plum_level.specs.Level.{sample_level};
-ghost use Rattle.plum_level.specs.Tallies.{MOST_LEVELS};
+ghost use Rattle.plum_base.specs.Levels.{MOST_LEVELS};
 
-use crate::tally::MOST_LEVELS;
-use plum_base::Levels;
+use plum_base::{Levels, MOST_LEVELS};
 use std::marker::Model;
 
 /// The thresholds of a table, filled up with `u64::MAX` to the length of the longest table. So the

@@ -3,7 +3,7 @@
 ghost use Rattle.std.specs.Prelude.{◌≡◌, ℕ, ◌<◌, List, [], ◌∷◌, ◌++◌, IfOk};
 ghost use Rattle.plum_base.specs.Levels.{LevelsView};
 ghost use Rattle.plum_level.specs.Level.{last_minute, IsLevelOfRun};
-ghost use Rattle.plum_level.specs.Tallies.{MOST_LEVELS};
+ghost use Rattle.plum_base.specs.Levels.{MOST_LEVELS};
 ghost use Rattle.plum_level.specs.Window.{StandsFor};
 
 use crate::tally::{ENOUGH, Tally};

@@ -2,7 +2,7 @@
 use Rattle.std.proofs.Common.{◌≡◌, ◌≢◌, ℕ, zero, suc, ◌+◌, ◌*◌, ◌<◌, ◌≤◌, List, [], ◌∷◌}
 use Rattle.std.proofs.Common.{◌++◌, length, take, drop, get_or, Some, None, w32, refl, sym, ap}
 use Rattle.std.proofs.Common.{◌∙◌, inl, inr, arith, length-drop, take-append-drop, drop-drop}
-use Rattle.std.proofs.Common.{slice_get, subst, pos, AllPairs, Option, IsSomeAnd, ◌%◌}
+use Rattle.std.proofs.Common.{slice_get, subst, pos, Option, IsSomeAnd, ◌%◌}
 use Rattle.std.proofs.lemmas.Bool.{cases_eq, cases_order, cases_Bool, false≢true}
 use Rattle.std.proofs.lemmas.Int.{of_z-to_z}
 use Rattle.std.proofs.lemmas.List.{nil_from_length, same_lists}
@@ -18,7 +18,7 @@ use Rattle.plum_base.specs.declared.wave.Sample.{Sample}
 use Rattle.plum_base.specs.declared.numbers.Key.{Key}
 use Rattle.plum_base.specs.declared.packet.Packet.{Packet}
 use Rattle.plum_base.specs.declared.packet.PacketFault.TheVariants.{Magic, Version, Flags}
-use Rattle.plum_base.specs.Sites.{HasCode}
+use Rattle.plum_base.specs.Sites.{HasCode, AreCodesDistinct}
 use Rattle.plum_packet.specs.Capture.{AreBytes}
 use Rattle.plum_packet.specs.Body.{HEADER, SAMPLE, number_at, signed_at, sample_at}
 use Rattle.plum_packet.specs.Body.{version_of, flags_of, code_of, key_of, count_of}
@@ -213,7 +213,7 @@ code_at (s ∷ rest) (suc n) code d has =
 
 -- where codes are distinct, one station has it
 same_station : (stations : List StationSite) (n m code : ℕ)
-    → AllPairs (λ a b. a.code ≢ b.code) stations → HasCode stations n code
+    → AreCodesDistinct stations → HasCode stations n code
     → HasCode stations m code → n ≡ m
 same_station stations n m code distinct some other =
     let d : StationSite = record {
@@ -243,7 +243,7 @@ same_samples body some others a b =
 
 -- where codes are distinct, a body is one packet
 pub is_only_packet : (stations : List StationSite) (packet : Packet) (body : List ℕ)
-    → AllPairs (λ a b. a.code ≢ b.code) stations → IsPacket stations body packet
+    → AreCodesDistinct stations → IsPacket stations body packet
     → IsOnlyPacket stations packet body
 is_only_packet stations packet body distinct is other read =
     let station = same_station stations other.station.0 packet.station.0 (code_of body) distinct

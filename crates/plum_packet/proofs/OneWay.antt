@@ -1,8 +1,9 @@
 -- A capture decodes in one way.
 use Rattle.std.proofs.Common.{◌≡◌, ◌≢◌, ℕ, List, [], ◌∷◌, Ok, Err, refl, sym, ap, subst, ◌∙◌}
-use Rattle.std.proofs.Common.{AllPairs, length}
+use Rattle.std.proofs.Common.{length}
 use Rattle.std.specs.List.{AllZip}
 use Rattle.plum_base.specs.declared.sites.StationSite.{StationSite}
+use Rattle.plum_base.specs.Sites.{AreCodesDistinct}
 use Rattle.plum_packet.specs.Laws.{DecodedInOneWay}
 use Rattle.plum_packet.specs.Segments.{Decoded, DecodesAs, IsDecodedSegment}
 use Rattle.plum_packet.specs.Segments.{segments_of}
@@ -23,7 +24,7 @@ same_zipped R one (x ∷ xs) (y ∷ ys) (z ∷ zs) some other =
     let later = same_zipped R one xs ys zs some.1 other.1 in
     cc
 
-module _ (stations : List StationSite) (distinct : AllPairs (λ a b. a.code ≢ b.code) stations) where
+module _ (stations : List StationSite) (distinct : AreCodesDistinct stations) where
   -- a body decodes in one way
   one_body : (body : ℕ × List ℕ) (some other : Decoded)
       → (some.0 ≡ body.0) × DecodesAs stations body.1 some.1

@@ -14,11 +14,11 @@ use Rattle.plum_base.specs.declared.sites.StationSite.{StationSite}
 use Rattle.plum_base.specs.declared.wave.Sample.{Sample}
 use Rattle.plum_base.specs.declared.numbers.Key.{Key}
 use Rattle.plum_base.specs.declared.packet.Packet.{Packet}
+use Rattle.plum_base.specs.Packet.{FitsKey}
 use Rattle.plum_base.specs.Sites.{HasCode}
 use Rattle.plum_packet.specs.Body.{HEADER, SAMPLE, MOST_SAMPLES, signed_at, sample_at}
 use Rattle.plum_packet.specs.Body.{code_of, key_of, count_of, IsPacket}
 use Rattle.plum_packet.specs.Encoding.{header_of, signed_bytes, sample_bytes, body_of, FitsSample}
-use Rattle.plum_packet.specs.Encoding.{FitsKey}
 use Rattle.plum_packet.proofs.Fields.{listed}
 use Rattle.plum_packet.proofs.FirstFault.{has_no_fault}
 use Rattle.plum_packet.proofs.Samples.{cast_signed-word}
@@ -107,8 +107,8 @@ module _ (code : ℕ) (key : Key) (count : ℕ) (rest : List ℕ) where
 
   key-reads_back : FitsKey key → key ≡ key_of (header_of code key count ++ rest)
   key-reads_back fits =
-      let boot = big_number-reads_back 2 key.boot [] fits.boot in
-      let number = big_number-reads_back 4 key.number [] fits.number in
+      let boot = big_number-reads_back 2 key.boot [] fits.0 in
+      let number = big_number-reads_back 4 key.number [] fits.1 in
       let same : record { boot = key.boot; number = key.number }
       ≡ key_of (header_of code key count ++ rest) = cc in
       same

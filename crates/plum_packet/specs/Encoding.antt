@@ -1,6 +1,6 @@
 -- A packet as bytes (the project's own format, version 1). All numbers stand with the highest byte
 -- first.
-use Rattle.std.specs.Prelude.{◌≡◌, ℕ, ◌^◌, ◌<◌, ℤ, List, [], ◌∷◌, ◌++◌, length, FitsSigned}
+use Rattle.std.specs.Prelude.{◌≡◌, ℕ, ℤ, List, [], ◌∷◌, ◌++◌, length, FitsSigned}
 use Rattle.std.specs.List.{flat_map}
 use Rattle.std.specs.Int.{w32, cast_unsigned}
 use Rattle.byteorder.specs.Endian.{big_bytes}
@@ -37,11 +37,6 @@ pub record FitsSample (s : Sample) : Type 0 where
   pub x : FitsSigned w32 s.x
   pub y : FitsSigned w32 s.y
   pub z : FitsSigned w32 s.z
-
--- A boot has 16 bits and a number 32.
-pub record FitsKey (key : Key) : Type 0 where
-  pub boot : key.boot < 2 ^ 16
-  pub number : key.number < 2 ^ 32
 
 -- No other body is this packet.
 abbrev pub IsOnlyBody : List StationSite → Packet → List ℕ → Type 0

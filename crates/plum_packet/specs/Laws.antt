@@ -1,9 +1,9 @@
 -- What holds of captures and of segments: the statements of their laws.
 use Rattle.std.specs.Prelude.{◌≡◌, ◌≢◌, ◌<◌, ◌≤◌, ◌⊎◌, ℕ, List, [], ◌∷◌, ◌++◌, length, map, All}
-use Rattle.std.specs.Prelude.{AllPairs}
 use Rattle.std.specs.List.{flat_map, enumerate_from, AllByRecursion}
 use Rattle.plum_base.specs.Counts.{AddUp}
 use Rattle.plum_base.specs.declared.sites.StationSite.{StationSite}
+use Rattle.plum_base.specs.Sites.{AreCodesDistinct}
 use Rattle.plum_seq.specs.Keys.{kept_after}
 use Rattle.plum_packet.specs.Capture.{LONGEST_RECORD}
 use Rattle.plum_packet.specs.Segments.{SEGMENT_BODIES}
@@ -58,7 +58,7 @@ OneSegment = (bodies : List (List ℕ)) → HasNoMark bodies → length bodies <
 abbrev pub DecodedInOneWay : Type 0
 DecodedInOneWay = (stations : List StationSite) (capture : List ℕ)
     (some others : List (List Decoded)) (tail other : ℕ)
-    → AllPairs (λ a b. a.code ≢ b.code) stations → AreBytes capture
+    → AreCodesDistinct stations → AreBytes capture
     → IsCaptureOf stations capture some tail → IsCaptureOf stations capture others other
     → (some ≡ others) × (tail ≡ other)
 

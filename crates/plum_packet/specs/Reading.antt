@@ -1,7 +1,6 @@
 -- How far a reader of segments has come.
-use Rattle.std.specs.Prelude.{◌≡◌, ℕ, ◌+◌, ◌<◌, List, [], ◌∷◌, ◌++◌, length, All, Option, Some}
+use Rattle.std.specs.Prelude.{◌≡◌, ℕ, ◌+◌, ◌<◌, List, [], ◌∷◌, ◌++◌, length, Option, Some}
 use Rattle.std.specs.List.{AllZip}
-use Rattle.plum_base.specs.declared.packet.Packet.{Packet}
 use Rattle.plum_base.specs.declared.sites.StationSite.{StationSite}
 use Rattle.plum_packet.specs.declared.records.Progress.TheVariants.{Open, Ended}
 use Rattle.plum_packet.specs.declared.segment.Segment.{Segment}
@@ -46,10 +45,6 @@ pub record HasBegun (stations : List StationSite) (capture : List ℕ)
 -- how many bodies a segment holds
 abbrev pub bodies_in : Segment → ℕ
 bodies_in segment = length segment.packets.items + length segment.refused.items
-
--- The packets are of listed stations.
-abbrev pub AreOfStations : List StationSite → List Packet → Type 0
-AreOfStations stations packets = All (λ p. p.station.0 < length stations) packets
 
 -- The segment holds one body more, decoded, beside the number of its record.
 pub record HoldsOneMore (old new : Segment) (decoded : Decoded) : Type 0 where

@@ -4,7 +4,8 @@ ghost use Rattle.std.specs.Prelude.{◌≡◌, ◌<◌, ◌≤◌, ◌++◌, len
 ghost use Rattle.std.specs.List.{flat_map};
 ghost use Rattle.plum_base.specs.Sites.{AreStations, HasCode};
 ghost use Rattle.plum_packet.specs.Body.{IsPacket};
-ghost use Rattle.plum_packet.specs.Encoding.{header_of, sample_bytes, FitsKey, FitsSample};
+ghost use Rattle.plum_base.specs.Packet.{FitsKey};
+ghost use Rattle.plum_packet.specs.Encoding.{header_of, sample_bytes, FitsSample};
 ghost use Rattle.plum_packet.specs.Encoding.{IsOnlyBody, IsOnlyPacket};
 
 use crate::body::{HEADER, MOST_SAMPLES, SAMPLE};

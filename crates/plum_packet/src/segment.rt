@@ -3,7 +3,8 @@
 ghost use Rattle.std.specs.Prelude.{◌≡◌, ◌+◌, ◌^◌, ◌<◌, [], length, Result, OnOk, OnErr};
 ghost use Rattle.plum_base.specs.declared.packet.Packet.{Packet};
 ghost use Rattle.plum_base.specs.declared.packet.PacketFault.{PacketFault};
-ghost use Rattle.plum_packet.specs.Reading.{bodies_in, AreOfStations, HoldsOneMore};
+ghost use Rattle.plum_base.specs.Packet.{AreListed};
+ghost use Rattle.plum_packet.specs.Reading.{bodies_in, HoldsOneMore};
 ghost use Rattle.plum_packet.specs.Segments.{DecodesAs};
 
 use crate::body::{DecodeFault, decode};
@@ -52,8 +53,8 @@ impl Segment {
             × DecodesAs sites.now.stations bytes.now body
             × HoldsOneMore self.old self.new (number, body)) }
         ensures count { OnOk result (bodies_in self.new ≡ bodies_in self.old + 1) }
-        ensures listed { AreOfStations sites.now.stations self.old.packets.items
-            → AreOfStations sites.now.stations self.new.packets.items }
+        ensures listed { AreListed (length sites.now.stations) self.old.packets.items
+            → AreListed (length sites.now.stations) self.new.packets.items }
 
         // Where memory was refused nothing was taken.
         ensures packets { OnErr result (self.new.packets.items ≡ self.old.packets.items) }

@@ -73,7 +73,8 @@ impl Model for Segments {
 
 impl Segments {
     ghost use Rattle.plum_base.specs.declared.sites.StationSite.{StationSite};
-    ghost use Rattle.plum_packet.specs.Reading.{bodies_in, AreOfStations, HasGiven, GivesSegment};
+    ghost use Rattle.plum_base.specs.Packet.{AreListed};
+    ghost use Rattle.plum_packet.specs.Reading.{bodies_in, HasGiven, GivesSegment};
     ghost use Rattle.plum_packet.specs.Reading.{GoesOnWithin, EndsSegment, TakesRecords};
     ghost use Rattle.plum_packet.specs.Records.{segments_left, tail_of};
 
@@ -108,7 +109,7 @@ impl Segments {
         ensures begun { IfOk result (λ found. IfSome found (λ _. self.old.progress ≡ Open)) }
         ensures progress { IfOk result (λ found. IfSome found (λ _. self.new.progress ≢ Over)) }
         ensures listed { IfOk result (λ found. IfSome found (λ segment.
-            AreOfStations sites.now.stations segment.packets.items)) }
+            AreListed (length sites.now.stations) segment.packets.items)) }
 
         // None exactly after the last one.
         ensures none { IfOk result (λ found. IfNone found (self.old.progress ≡ Ended)) }
@@ -169,8 +170,8 @@ impl Segments {
         ensures still_open { IfOk result (λ more. IsTrue more → self.new.progress ≡ Open) }
         ensures room { IfOk result (λ more. IsTrue more → bodies_in segment.new < SEGMENT_BODIES) }
         ensures progress { OnOk result (self.new.progress ≢ Over) }
-        ensures listed { AreOfStations sites.now.stations segment.old.packets.items
-            → AreOfStations sites.now.stations segment.new.packets.items }
+        ensures listed { AreListed (length sites.now.stations) segment.old.packets.items
+            → AreListed (length sites.now.stations) segment.new.packets.items }
 
         // Each body took a record, and so did a mark.
         ensures bodies { OnOk result

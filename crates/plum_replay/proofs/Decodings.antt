@@ -25,7 +25,8 @@ use Rattle.plum_packet.specs.Reading.{MOST_RECORDS, HasMoreRecords}
 use Rattle.plum_packet.specs.Laws.{HoldEachBody}
 use Rattle.plum_packet.proofs.Captures.{byte, AreBytes-drop}
 use Rattle.plum_packet.proofs.Samples.{word_fits}
-use Rattle.plum_text.specs.Fields.{Fits, FitsKey, FitsFault}
+use Rattle.plum_base.specs.Packet.{FitsKey}
+use Rattle.plum_text.specs.Fields.{Fits, FitsFault}
 use Rattle.plum_text.specs.Texts.{code_of_station}
 use Rattle.plum_replay.proofs.Lists.{All-front, All-back, All-pieces, All-passing}
 

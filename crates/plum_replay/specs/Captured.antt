@@ -8,7 +8,7 @@ use Rattle.plum_packet.specs.Reading.{MOST_RECORDS, HasMoreRecords, HoldsBodies,
 use Rattle.plum_packet.specs.declared.segment.Segment.{Segment}
 use Rattle.plum_packet.specs.Capture.{AreRecords, HasRecord}
 use Rattle.plum_packet.specs.Segments.{Decoded, IsCaptureOf}
-use Rattle.plum_core.specs.History.{AreListed}
+use Rattle.plum_base.specs.Packet.{AreListed}
 
 -- how many bodies these segments have
 abbrev pub all_bodies_in : List Segment → ℕ

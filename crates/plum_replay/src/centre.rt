@@ -9,7 +9,7 @@ ghost use Rattle.plum_base.specs.declared.packet.Packet.{Packet};
 ghost use Rattle.plum_base.specs.Sites.{SitesView};
 ghost use Rattle.plum_text.specs.Texts.{note_of};
 ghost use Rattle.plum_board.specs.Board.{StandsFor};
-ghost use Rattle.plum_core.specs.History.{AreListed};
+ghost use Rattle.plum_base.specs.Packet.{AreListed};
 ghost use Rattle.plum_core.specs.Station.{HasTaken, size_of};
 ghost use Rattle.plum_packet.specs.Reading.{MOST_RECORDS};
 ghost use Rattle.plum_replay.specs.Taking.{TakesPackets};

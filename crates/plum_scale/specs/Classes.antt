@@ -1,6 +1,8 @@
 -- The classes of the JMA scale (Japan Meteorological Agency), cut from the intensity in tenths. The
 -- texts `5-`, `5+`, `6-` and `6+` are the project's own.
-use Rattle.std.specs.Prelude.{ℕ, pos, int_lt, if◌then◌else◌, List, codes}
+use Rattle.std.specs.Prelude.{ℕ, pos, int_lt, if◌then◌else◌, List, [], ◌∷◌, Option, codes}
+use Rattle.std.specs.List.{find}
+use Rattle.std.specs.Str.{bytes_eq}
 use Rattle.plum_base.specs.declared.numbers.Tenths.{Tenths}
 use Rattle.plum_base.specs.declared.rules.Class.{Class}
 use Rattle.plum_base.specs.declared.rules.Class.TheVariants.{C0, C1, C2, C3, C4, C5Lower, C5Upper}
@@ -19,6 +21,7 @@ class_of t =
     if int_lt t.0 (pos 60) then C6Lower else
     if int_lt t.0 (pos 65) then C6Upper else C7
 
+-- the text of a class
 abbrev pub class_text : Class → List ℕ
 class_text C0 = codes "0"
 class_text C1 = codes "1"
@@ -30,3 +33,11 @@ class_text C5Upper = codes "5+"
 class_text C6Lower = codes "6-"
 class_text C6Upper = codes "6+"
 class_text C7 = codes "7"
+
+-- the classes of the scale, from the weakest
+abbrev pub classes : List Class
+classes = C0 ∷ C1 ∷ C2 ∷ C3 ∷ C4 ∷ C5Lower ∷ C5Upper ∷ C6Lower ∷ C6Upper ∷ C7 ∷ []
+
+-- the class that has this text
+abbrev pub class_named : List ℕ → Option Class
+class_named text = find (λ c. bytes_eq (class_text c) text) classes

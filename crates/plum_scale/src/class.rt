@@ -2,7 +2,7 @@
 
 ghost use Rattle.std.specs.Prelude.{◌≡◌, Some, IfSome};
 ghost use Rattle.plum_base.specs.declared.rules.Class.{Class};
-ghost use Rattle.plum_scale.specs.Classes.{class_of, class_text};
+ghost use Rattle.plum_scale.specs.Classes.{class_of, class_text, class_named};
 
 use plum_base::{Class, Tenths};
 
@@ -44,6 +44,7 @@ pub fn class_text(class: Class) -> &'static str
 
 /// The class that has this text.
 pub fn class_read(text: &[u8]) -> Option<Class>
+    ensures named { result ≡ class_named text.now }
     ensures some { IfSome result (λ c. class_text c ≡ text.now) }
 
     // None exactly where no class has it; and the text of a class is read as that class.

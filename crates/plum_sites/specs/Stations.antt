@@ -1,9 +1,8 @@
 -- The station file (the project's own format).
 use Rattle.std.specs.Prelude.{◌≡◌, ◌≢◌, ℕ, ℤ, ◌≤◌, ◌≤ℤ◌, pos, List, [], ◌∷◌, length, codes, All}
-use Rattle.std.specs.Prelude.{Any}
 use Rattle.plum_base.specs.declared.sites.StationSite.{StationSite}
 use Rattle.plum_base.specs.Levels.{IsFactor}
-use Rattle.plum_base.specs.Sites.{IsPlace, MOST_STATIONS, AreStations}
+use Rattle.plum_base.specs.Sites.{IsPlace, MOST_STATIONS, IsCodeTaken, AreStations}
 use Rattle.plum_sites.specs.declared.fault.SiteFault.{SiteFault}
 use Rattle.plum_sites.specs.declared.fault.SiteFault.TheVariants as faults
 use Rattle.plum_sites.specs.Fields.{Spells, IsNumber}
@@ -40,9 +39,9 @@ IsFirstStationFault before row n (faults.Range k) =
     (k ≡ n) × (code x y factor : ℤ) × AllZip Spells row (code ∷ x ∷ y ∷ factor ∷ [])
     × ¬ (AreStationNumbers code x y factor)
 IsFirstStationFault before row n (faults.Twice k) =
-    (k ≡ n) × (s : StationSite) × StatesStation row s × Any (λ b. b.code ≡ s.code) before
+    (k ≡ n) × (s : StationSite) × StatesStation row s × IsCodeTaken before s.code
 IsFirstStationFault before row n (faults.TooMany k) =
-    (k ≡ n) × (s : StationSite) × StatesStation row s × ¬ (Any (λ b. b.code ≡ s.code) before)
+    (k ≡ n) × (s : StationSite) × StatesStation row s × ¬ (IsCodeTaken before s.code)
     × (MOST_STATIONS ≤ length before)
 
 -- records that state these stations

@@ -1,10 +1,11 @@
 -- The target file (the project's own format).
 use Rattle.std.specs.Prelude.{◌≡◌, ◌≢◌, ◌<◌, ◌⊎◌, ℕ, ℤ, ◌≤◌, List, [], ◌∷◌, ◌++◌, length, take}
-use Rattle.std.specs.Prelude.{drop, codes, All, Any}
+use Rattle.std.specs.Prelude.{drop, codes, All}
 use Rattle.plum_base.specs.declared.sites.TargetSite.{TargetSite}
 use Rattle.plum_base.specs.Levels.{IsFactor}
 use Rattle.plum_base.specs.Name.{IsName}
-use Rattle.plum_base.specs.Sites.{IsPlace, MOST_TARGETS, MOST_AREAS, areas_of, AreTargets}
+use Rattle.plum_base.specs.Sites.{IsPlace, MOST_TARGETS, MOST_AREAS, areas_of, IsNameTaken}
+use Rattle.plum_base.specs.Sites.{AreTargets}
 use Rattle.plum_sites.specs.declared.fault.SiteFault.{SiteFault}
 use Rattle.plum_sites.specs.declared.fault.SiteFault.TheVariants as faults
 use Rattle.plum_sites.specs.Fields.{Spells, IsNumber}
@@ -38,9 +39,9 @@ IsFirstTargetFault before row n (faults.Range k) =
     (k ≡ n) × (name area : List ℕ) × (x y factor : ℤ) × (take 2 row ≡ name ∷ area ∷ [])
     × AllZip Spells (drop 2 row) (x ∷ y ∷ factor ∷ []) × ¬ (AreTargetFields name area x y factor)
 IsFirstTargetFault before row n (faults.Twice k) =
-    (k ≡ n) × (t : TargetSite) × StatesTarget row t × Any (λ b. b.name ≡ t.name) before
+    (k ≡ n) × (t : TargetSite) × StatesTarget row t × IsNameTaken before t.name
 IsFirstTargetFault before row n (faults.TooMany k) =
-    (k ≡ n) × (t : TargetSite) × StatesTarget row t × ¬ (Any (λ b. b.name ≡ t.name) before)
+    (k ≡ n) × (t : TargetSite) × StatesTarget row t × ¬ (IsNameTaken before t.name)
     × ((MOST_TARGETS ≤ length before) ⊎ (MOST_AREAS < length (areas_of (before ++ t ∷ []))))
 
 -- records that state these targets

@@ -1,10 +1,10 @@
 //! The station file.
 
-ghost use Rattle.std.specs.Prelude.{◌≡◌, ◌≢◌, ◌↔◌, ◌<◌, ◌∷◌, [], List, pos, length, All, Any, refl};
-ghost use Rattle.std.specs.Prelude.{IsTrue, IfOk, IfErr, IfSome, IfNone};
+ghost use Rattle.std.specs.Prelude.{◌≡◌, ◌≢◌, ◌<◌, ◌∷◌, [], List, pos, length, All, refl};
+ghost use Rattle.std.specs.Prelude.{IfOk, IfErr, IfSome, IfNone};
 ghost use Rattle.csv.specs.Records.{fields_of};
 ghost use Rattle.plum_base.specs.declared.sites.StationSite.{StationSite};
-ghost use Rattle.plum_base.specs.Sites.{MOST_STATIONS as most, AreStations};
+ghost use Rattle.plum_base.specs.Sites.{MOST_STATIONS as most, IsCodeTaken, AreStations};
 ghost use Rattle.plum_sites.specs.Fields.{Spells, IsNumber};
 ghost use Rattle.std.specs.List.{AllZip};
 ghost use Rattle.plum_sites.specs.Files.{IfFault};
@@ -16,7 +16,7 @@ use crate::fields::number_read;
 use crate::ranges::{factor, place};
 use crate::walk::{SiteRows, read_sites};
 use csv::ByteRecord;
-use plum_base::{MOST_STATIONS, StationSite};
+use plum_base::{MOST_STATIONS, StationSite, has_code};
 use std::alloc::Global;
 
 /// The fields of a row, by column.
@@ -104,13 +104,6 @@ fn station_of_row(row: &ByteRecord, number: u32) -> Result<StationSite, SiteFaul
     Ok(station)
 }
 
-/// Whether one of the stations has this code.
-fn has_code(stations: &[StationSite], code: u16) -> bool
-    ensures { IsTrue result ↔ Any (λ s. s.code ≡ code) stations.now }
-{
-    stations.iter().any(|s| s.code == code)
-}
-
 /// The station of a row behind those of the rows before. A centre reads its files once, so that a
 /// comparison with each station before is fast enough.
 fn next_station(
@@ -119,7 +112,7 @@ fn next_station(
     number: u32,
 ) -> Result<StationSite, SiteFault>
     ensures station { IfOk result (λ s. StatesStation (fields_of row.now) s
-        × (¬ Any (λ b. b.code ≡ s.code) before.now) × (length before.now < most)) }
+        × (¬ IsCodeTaken before.now s.code) × (length before.now < most)) }
     ensures fault { IfErr result (IsFirstStationFault before.now (fields_of row.now) number) }
 {
     let station = station_of_row(row, number)?;

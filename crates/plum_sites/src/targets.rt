@@ -1,11 +1,11 @@
 //! The target file.
 
 ghost use Rattle.std.specs.Prelude.{◌≡◌, ◌≢◌, ◌↔◌, ◌<◌, ◌≤◌, ◌∷◌, [], ◌++◌, List, length};
-ghost use Rattle.std.specs.Prelude.{All, Any, IsTrue, IfOk, IfErr, IfSome, IfNone, OnOk, refl};
+ghost use Rattle.std.specs.Prelude.{All, IsTrue, IfOk, IfErr, IfSome, IfNone, OnOk, refl};
 ghost use Rattle.csv.specs.Records.{fields_of};
 ghost use Rattle.plum_base.specs.declared.sites.TargetSite.{TargetSite};
 ghost use Rattle.plum_base.specs.Sites.{MOST_TARGETS as most, MOST_AREAS as most_areas, areas_of};
-ghost use Rattle.plum_base.specs.Sites.{AreTargets};
+ghost use Rattle.plum_base.specs.Sites.{IsNameTaken, AreTargets};
 ghost use Rattle.plum_sites.specs.Fields.{Spells, IsNumber};
 ghost use Rattle.std.specs.List.{AllZip};
 ghost use Rattle.plum_sites.specs.Files.{IfFault};
@@ -17,7 +17,9 @@ use crate::fields::number_read;
 use crate::ranges::{factor, place};
 use crate::walk::{SiteRows, read_sites};
 use csv::ByteRecord;
-use plum_base::{MOST_AREAS, MOST_TARGETS, Name, NoMemory, TargetSite, areas_come_in_order};
+use plum_base::{
+    MOST_AREAS, MOST_TARGETS, Name, NoMemory, TargetSite, areas_come_in_order, has_name, is_among,
+};
 use std::alloc::Global;
 
 /// The fields of a row, by column.
@@ -109,20 +111,6 @@ fn target_of_row(row: &ByteRecord, number: u32) -> Result<TargetSite, SiteFault>
     Ok(target)
 }
 
-/// Whether one of the targets has this name.
-fn has_name(targets: &[TargetSite], name: &Name) -> bool
-    ensures { IsTrue result ↔ Any (λ t. t.name ≡ name.now) targets.now }
-{
-    targets.iter().any(|t| t.name == *name)
-}
-
-/// Whether this is one of the areas.
-fn is_among(areas: &[Name], area: &Name) -> bool
-    ensures { IsTrue result ↔ Any (λ a. a ≡ area.now) areas.now }
-{
-    areas.iter().any(|a| *a == *area)
-}
-
 /// Whether the areas, with that of the target, are no more than there may be.
 fn has_room(areas: &[Name], target: &TargetSite) -> bool
     ensures { (before : List TargetSite) → areas.now ≡ areas_of before
@@ -156,7 +144,7 @@ fn next_target(
     requires all { areas.now ≡ areas_of before.now }
     requires few { length areas.now ≤ most_areas }
     ensures target { IfOk result (λ t. StatesTarget (fields_of row.now) t
-        × (¬ Any (λ b. b.name ≡ t.name) before.now) × (length before.now < most)
+        × (¬ IsNameTaken before.now t.name) × (length before.now < most)
         × (length (areas_of (before.now ++ t ∷ [])) ≤ most_areas)) }
     ensures fault { IfErr result (IsFirstTargetFault before.now (fields_of row.now) number) }
 {

@@ -1,6 +1,5 @@
 pub mod Arrays
 pub mod Walks
-pub mod Classes
 pub mod Rising
 pub mod Documents
 pub mod Cascades

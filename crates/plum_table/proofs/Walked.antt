@@ -2,21 +2,26 @@
 use Rattle.std.proofs.Common.{◌↔◌, ◌≡◌, ℕ, ◌+◌, ℤ, pos, Bool}
 use Rattle.std.proofs.Common.{true, false, List, [], ◌∷◌, Option, Some}
 use Rattle.std.proofs.Common.{None, Result, Ok, Err, refl, ap}
-use Rattle.std.specs.Prelude.{if◌then◌else◌, ok_or, nat_abs, neg_ℤ, ◌^◌, codes}
+use Rattle.std.specs.Prelude.{if◌then◌else◌, ok_or, nat_abs, neg_ℤ, codes}
 use Rattle.std.specs.Str.{bytes_eq}
+use Rattle.plum_base.specs.declared.bounds.Bounds.{Bounds}
 use Rattle.plum_base.specs.declared.cascade.Rounding.TheVariants.{Floor, Nearest}
 use Rattle.toml.specs.Data.{Data, Members, get_member, as_integer, as_str, as_table}
 use Rattle.plum_base.specs.declared.rules.Class.{Class}
+use Rattle.plum_base.specs.Cascade.{GREATEST_COEFFICIENT, STAGE_Q, MOST_STAGES}
+use Rattle.plum_base.specs.Levels.{MOST_LEVELS, GREATEST_FACTOR}
+use Rattle.plum_base.specs.Setup.{CALM, GAIN_G, GAIN_H, LANES, QUEUE}
+use Rattle.plum_scale.specs.Classes.{class_named}
 use Rattle.plum_table.specs.declared.fault.Field.TheVariants as field
 use Rattle.plum_table.specs.declared.fault.SetupKey.{SetupKey}
 use Rattle.plum_table.specs.declared.fault.SetupFault.{SetupFault}
 use Rattle.plum_table.specs.declared.fault.SetupFault.TheVariants.{NotToml, Kind, Range}
 use Rattle.plum_table.specs.Keys.{name_of, setup_key, stage_key}
 use Rattle.plum_table.specs.Kinds.{◌>>=◌, of_kind, value_at}
-use Rattle.plum_table.specs.Kinds.{integer_at, natural_at, array_at, walk_from}
+use Rattle.plum_table.specs.Kinds.{integer_at, integer_up_to, natural_at, array_at, walk_from}
 use Rattle.plum_table.specs.Stages.{coefficient_at, rounding_of, stage_of, stages_of}
 use Rattle.plum_table.specs.Levels.{threshold_of, from_zero, levels_of, unless_at, first_not_rising}
-use Rattle.plum_table.specs.Rules.{class_at, cancel_at, rules_of, class_named}
+use Rattle.plum_table.specs.Rules.{class_at, cancel_at, rules_of}
 use Rattle.plum_table.specs.Setup.{gain_of, setup_in, document_of, setup_of}
 
 -- a value, or another fault
@@ -63,10 +68,13 @@ integer : (table : Members) (key : SetupKey) (low high : ℤ)
 integer table key low high =
     after _ _ (at_key as_integer table key) (λ z. choice _ _ _ (value z) (out key))
 
-natural : (table : Members) (key : SetupKey) (low high : ℕ)
-    → IsWalked (natural_at table key low high)
-natural table key low high =
-    after _ _ (integer table key (pos low) (pos high)) (λ z. value (nat_abs z))
+up_to : (table : Members) (key : SetupKey) (end : ℕ) → IsWalked (integer_up_to table key end)
+up_to table key end = integer table key (neg_ℤ (pos end)) (pos end)
+
+natural : (table : Members) (key : SetupKey) (bounds : Bounds)
+    → IsWalked (natural_at table key bounds)
+natural table key bounds =
+    after _ _ (integer table key (pos bounds.low) (pos bounds.high)) (λ z. value (nat_abs z))
 
 array : {A : Type 0} (kind : Data → Option A) (table : Members) (key : SetupKey) (most : ℕ)
     → IsWalked (array_at kind table key most)
@@ -89,7 +97,7 @@ class rules key =
     after _ _ (at_key as_str rules key) (λ text. range_or (class_named text) key)
 
 coefficient : (table : Members) (key : SetupKey) → IsWalked (coefficient_at table key)
-coefficient table key = integer table key (neg_ℤ (pos (2 ^ 30))) (pos (2 ^ 30))
+coefficient table key = up_to table key GREATEST_COEFFICIENT
 
 rounding : (key : SetupKey) (name : List ℕ) → IsWalked (rounding_of key name)
 rounding key name =
@@ -117,26 +125,26 @@ stage n table =
     after _ _ (coefficient table (stage_key field.B2 n)) (λ b2.
     after _ _ (coefficient table (stage_key field.A1 n)) (λ a1.
     after _ _ (coefficient table (stage_key field.A2 n)) (λ a2.
-    after _ _ (natural table (stage_key field.Q n) 1 30) (λ q.
+    after _ _ (natural table (stage_key field.Q n) STAGE_Q) (λ q.
     after _ _ (after _ _ (at_key as_str table (stage_key field.Round n))
     (rounding (stage_key field.Round n))) (λ round.
     value (record { b0 = b0; b1 = b1; b2 = b2; a1 = a1; a2 = a2; q = q; round = round }))))))))
 
 gain : (table : Members) → IsWalked (gain_of table)
 gain table =
-    after _ _ (natural table (setup_key field.GainG) 1 (2 ^ 31)) (λ g.
-    after _ _ (natural table (setup_key field.GainH) 0 31) (λ h. value (record { g = g; h = h })))
+    after _ _ (natural table (setup_key field.GainG) GAIN_G) (λ g.
+    after _ _ (natural table (setup_key field.GainH) GAIN_H) (λ h. value (record { g = g; h = h })))
 
 stages : (file : Members) → IsWalked (stages_of file)
 stages file =
-    after _ _ (array as_table file (setup_key field.Stages) 8) (walked stage_of stage 0)
+    after _ _ (array as_table file (setup_key field.Stages) MOST_STAGES) (walked stage_of stage 0)
 
 levels : (table : Members) → IsWalked (levels_of table)
 levels table =
-    after _ _ (integer table (setup_key field.Base) (neg_ℤ (pos 100)) (pos 100)) (λ base.
+    after _ _ (up_to table (setup_key field.Base) GREATEST_FACTOR) (λ base.
     after _ _
     (after _ _
-    (after _ _ (array as_integer table (setup_key field.Thresholds) 128)
+    (after _ _ (array as_integer table (setup_key field.Thresholds) MOST_LEVELS)
     (walked (λ _ z. threshold_of z) (λ _ z. threshold z) 0))
     first_zero)
     (λ ts. unless (first_not_rising ts) (record { thresholds = ts; base = record { 0 = base } })))
@@ -145,13 +153,13 @@ rules : (table : Members) → IsWalked (rules_of table)
 rules table =
     after _ _ (class table (setup_key field.Raise)) (λ raise.
     after _ _ (cancel table raise) (λ cancel.
-    after _ _ (natural table (setup_key field.Calm) 1 1000) (λ calm.
+    after _ _ (natural table (setup_key field.Calm) CALM) (λ calm.
     value (record { raise = raise; cancel = cancel; calm = calm }))))
 
 setup_in-walked : (file : Members) → IsWalked (setup_in file)
 setup_in-walked file =
-    after _ _ (natural file (setup_key field.Lanes) 1 16) (λ lanes.
-    after _ _ (natural file (setup_key field.Queue) 1 65536) (λ queue.
+    after _ _ (natural file (setup_key field.Lanes) LANES) (λ lanes.
+    after _ _ (natural file (setup_key field.Queue) QUEUE) (λ queue.
     after _ _ (after _ _ (at_key as_table file (setup_key field.Gain)) gain) (λ gain.
     after _ _ (stages file) (λ stages.
     after _ _ (after _ _ (at_key as_table file (setup_key field.Levels)) levels) (λ levels.

@@ -1,9 +1,10 @@
 -- What stands at a key of the setup file: Missing, then Kind, then Range (the project's own rule).
-use Rattle.std.specs.Prelude.{ℕ, ◌+◌, ℤ, pos, ◌&&◌, int_le, nat_le, nat_abs, List, [], ◌∷◌, length}
+use Rattle.std.specs.Prelude.{ℕ, ◌+◌, ℤ, pos, neg_ℤ, ◌&&◌, int_le, nat_le, nat_abs, List, [], ◌∷◌, length}
 use Rattle.std.specs.Prelude.{Option, Some, None, if◌then◌else◌, ok_or, option_map, option_and_then}
 use Rattle.std.specs.Prelude.{Result, Ok, Err}
 use Rattle.toml.specs.Data.{Data, Items, no_items, item, Members, get_member}
 use Rattle.toml.specs.Data.{as_integer, as_array}
+use Rattle.plum_base.specs.declared.bounds.Bounds.{Bounds}
 use Rattle.plum_table.specs.declared.fault.SetupKey.{SetupKey}
 use Rattle.plum_table.specs.declared.fault.SetupFault.{SetupFault}
 use Rattle.plum_table.specs.declared.fault.SetupFault.TheVariants.{Missing, Kind, Range}
@@ -34,10 +35,14 @@ in_range key low high z = if int_le low z && int_le z high then Ok z else Err (R
 abbrev pub integer_at : Members → SetupKey → ℤ → ℤ → Result ℤ SetupFault
 integer_at table key low high = value_at as_integer table key >>= in_range key low high
 
--- the same as a natural number, where low and high are not negative
-abbrev pub natural_at : Members → SetupKey → ℕ → ℕ → Result ℕ SetupFault
-natural_at table key low high =
-    integer_at table key (pos low) (pos high) >>= (λ z. Ok (nat_abs z))
+-- the integer at a key, from the negative of a number to that number
+abbrev pub integer_up_to : Members → SetupKey → ℕ → Result ℤ SetupFault
+integer_up_to table key end = integer_at table key (neg_ℤ (pos end)) (pos end)
+
+-- the natural number at a key, within bounds
+abbrev pub natural_at : Members → SetupKey → Bounds → Result ℕ SetupFault
+natural_at table key bounds =
+    integer_at table key (pos bounds.low) (pos bounds.high) >>= (λ z. Ok (nat_abs z))
 
 -- the items, if they are all of a kind
 abbrev pub all_of : {A : Type 0} → (Data → Option A) → Items → Option (List A)

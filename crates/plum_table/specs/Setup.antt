@@ -1,5 +1,5 @@
 -- The setup that bytes state: a TOML document, walked key by key (the project's own format).
-use Rattle.std.specs.Prelude.{ℕ, ◌^◌, List, Option, None, Result, Ok}
+use Rattle.std.specs.Prelude.{ℕ, List, Option, None, Result, Ok}
 use Rattle.std.specs.Prelude.{◌≡◌, Err, ⊤, ok_or, if◌then◌else◌}
 use Rattle.std.specs.Str.{is_utf8}
 use Rattle.toml.specs.Data.{Members, as_table}
@@ -9,6 +9,7 @@ use Rattle.plum_base.specs.declared.setup.Setup.{Setup}
 use Rattle.plum_base.specs.declared.cascade.Stage.{Stage}
 use Rattle.plum_base.specs.declared.rules.Rules.{Rules}
 use Rattle.plum_base.specs.Levels.{LevelsView}
+use Rattle.plum_base.specs.Setup.{GAIN_G, GAIN_H, LANES, QUEUE}
 use Rattle.plum_table.specs.declared.fault.Field.TheVariants as field
 use Rattle.plum_table.specs.declared.fault.SetupFault.{SetupFault}
 use Rattle.plum_table.specs.declared.fault.SetupFault.TheVariants.{NotToml}
@@ -40,18 +41,18 @@ fields_of s = record {
   rules = s.rules;
 }
 
--- counts times g, divided by 2^h: g from 1 to 2^31, h from 0 to 31
+-- counts times g, divided by 2^h, each within its bounds
 abbrev pub gain_of : Members → Result Gain SetupFault
 gain_of gain =
-    natural_at gain (setup_key field.GainG) 1 (2 ^ 31) >>= (λ g.
-    natural_at gain (setup_key field.GainH) 0 31 >>= (λ h.
+    natural_at gain (setup_key field.GainG) GAIN_G >>= (λ g.
+    natural_at gain (setup_key field.GainH) GAIN_H >>= (λ h.
     Ok (record { g = g; h = h })))
 
 -- The keys of the file, in the order in which they are read.
 abbrev pub setup_in : Members → Result SetupFields SetupFault
 setup_in file =
-    natural_at file (setup_key field.Lanes) 1 16 >>= (λ lanes.
-    natural_at file (setup_key field.Queue) 1 65536 >>= (λ queue.
+    natural_at file (setup_key field.Lanes) LANES >>= (λ lanes.
+    natural_at file (setup_key field.Queue) QUEUE >>= (λ queue.
     value_at as_table file (setup_key field.Gain) >>= gain_of >>= (λ gain.
     stages_of file >>= (λ stages.
     value_at as_table file (setup_key field.Levels) >>= levels_of >>= (λ levels.

@@ -4,11 +4,13 @@ ghost use Rattle.std.specs.Prelude.{◌≡◌, ◌↔◌, ◌≤◌, ◌≤ℤ�
 ghost use Rattle.std.specs.Result.{result_map_both};
 ghost use Rattle.toml.specs.Data.{as_integer, as_str, as_table, as_array, get_member};
 ghost use Rattle.toml.specs.View.{view, table_view, array_view};
+ghost use Rattle.plum_base.specs.Bounds.{IsWithin};
 ghost use Rattle.plum_table.specs.Keys.{name_of};
 ghost use Rattle.plum_table.specs.Kinds.{value_at, integer_at, natural_at, array_at};
 ghost use Rattle.plum_table.specs.Values.{AreAll, values_as};
 
 use crate::fault::{SetupFault, SetupKey};
+use plum_base::Bounds;
 use toml::value::Array;
 use toml::{Table, Value};
 
@@ -56,12 +58,14 @@ pub fn table(table: &Table, key: SetupKey) -> Result<&Table, SetupFault>
     present(table, key)?.as_table().ok_or(SetupFault::Kind(key))
 }
 
-/// The number at a key, of a range without negative numbers.
-pub fn natural(table: &Table, key: SetupKey, low: u32, high: u32) -> Result<u32, SetupFault>
-    ensures value { result ≡ natural_at (table_view table.now) key low high }
-    ensures range { IfOk result (λ n. (low ≤ n) × (n ≤ high)) }
+/// The natural number at a key, within bounds.
+pub fn natural(table: &Table, key: SetupKey, bounds: Bounds) -> Result<u32, SetupFault>
+    ensures value { result ≡ natural_at (table_view table.now) key bounds }
+    ensures range { IfOk result (IsWithin bounds) }
 {
-    Ok(integer(table, key, i64::from(low), i64::from(high))?.unsigned_abs() as u32)
+    let low = i64::from(bounds.low);
+    let high = i64::from(bounds.high);
+    Ok(integer(table, key, low, high)?.unsigned_abs() as u32)
 }
 
 /// The array at a key.

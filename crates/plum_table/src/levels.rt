@@ -4,7 +4,8 @@ ghost use Rattle.std.specs.Prelude.{◌≡◌, ◌≤◌, length, All, IfOk};
 ghost use Rattle.std.specs.Result.{result_map_both};
 ghost use Rattle.toml.specs.Data.{as_integer};
 ghost use Rattle.toml.specs.View.{table_view};
-ghost use Rattle.plum_base.specs.Levels.{IsFactor, StartsAtZero, IsWithinUpTo, greatest_amplitude};
+ghost use Rattle.plum_base.specs.Levels.{GREATEST_AMPLITUDE as greatest, MOST_LEVELS as most};
+ghost use Rattle.plum_base.specs.Levels.{IsFactor, StartsAtZero, IsWithinUpTo};
 ghost use Rattle.plum_table.specs.Kinds.{walk_from};
 ghost use Rattle.plum_table.specs.Values.{AreAll, values_as};
 ghost use Rattle.plum_table.specs.Levels.{threshold_of, thresholds_of, in_order, levels_of};
@@ -12,18 +13,15 @@ ghost use Rattle.plum_table.specs.Levels.{threshold_of, thresholds_of, in_order,
 use crate::fault::{Field, SetupFault, SetupKey};
 use crate::kinds;
 use arrayvec::ArrayVec;
-use plum_base::{LevelFault, Levels, Tenths};
+use plum_base::{GREATEST_AMPLITUDE, GREATEST_FACTOR, LevelFault, Levels, MOST_LEVELS, Tenths};
 use toml::{Table, Value};
-
-/// The greatest squared amplitude: three components of 2^30.
-const GREATEST: i64 = 3 << 60;
 
 /// A threshold in its range.
 fn threshold(z: i64) -> Result<u64, SetupFault>
     ensures value { result ≡ threshold_of z }
-    ensures range { IfOk result (λ t. t ≤ greatest_amplitude) }
+    ensures range { IfOk result (λ t. t ≤ greatest) }
 {
-    if 0 <= z && z <= GREATEST {
+    if 0 <= z && z <= GREATEST_AMPLITUDE as i64 {
         Ok(z.unsigned_abs())
     } else {
         Err(SetupFault::Range(SetupKey::of(Field::Thresholds)))
@@ -32,11 +30,11 @@ fn threshold(z: i64) -> Result<u64, SetupFault>
 
 /// The thresholds of these integers.
 fn read_thresholds(values: &[Value]) -> Result<ArrayVec<u64, 128>, SetupFault>
-    requires few { length values.now ≤ 128 }
+    requires few { length values.now ≤ most }
     requires integers { AreAll as_integer values.now }
     ensures value { result_map_both (λ t. t.items) (λ e. e) result
         ≡ walk_from (λ _ z. threshold_of z) 0 (values_as as_integer values.now) }
-    ensures range { IfOk result (λ t. All (λ x. x ≤ greatest_amplitude) t.items) }
+    ensures range { IfOk result (λ t. All (λ x. x ≤ greatest) t.items) }
     ensures count { IfOk result (λ t. length t.items ≡ length values.now) }
 {
     let mut thresholds = ArrayVec::new();
@@ -54,7 +52,7 @@ fn thresholds_in(levels: &Table) -> Result<ArrayVec<u64, 128>, SetupFault>
     ensures within { IfOk result (λ t. IsWithinUpTo t.items (length t.items)) }
 {
     let key = SetupKey::of(Field::Thresholds);
-    let thresholds = read_thresholds(kinds::integers(levels, key, 128)?)?;
+    let thresholds = read_thresholds(kinds::integers(levels, key, MOST_LEVELS)?)?;
     if thresholds.as_slice()[0] != 0 {
         return Err(SetupFault::Range(key));
     }
@@ -79,6 +77,7 @@ fn in_order(thresholds: ArrayVec<u64, 128>, base: Tenths) -> Result<Levels, Setu
 pub fn read_levels(levels: &Table) -> Result<Levels, SetupFault>
     ensures { result ≡ levels_of (table_view levels.now) }
 {
-    let base = kinds::integer(levels, SetupKey::of(Field::Base), -100, 100)?;
+    let end = GREATEST_FACTOR as i64;
+    let base = kinds::integer(levels, SetupKey::of(Field::Base), -end, end)?;
     in_order(thresholds_in(levels)?, Tenths(base as i16))
 }

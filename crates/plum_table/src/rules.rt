@@ -7,7 +7,7 @@ ghost use Rattle.plum_table.specs.Rules.{class_at, cancel_at, rules_of};
 
 use crate::fault::{Field, SetupFault, SetupKey};
 use crate::kinds;
-use plum_base::{Class, Rules};
+use plum_base::{CALM, Class, Rules};
 use plum_scale::class_read;
 use toml::Table;
 
@@ -41,7 +41,7 @@ pub fn read_rules(rules: &Table) -> Result<Rules, SetupFault>
 {
     let raise = read_class(rules, SetupKey::of(Field::Raise))?;
     let cancel = read_cancel(rules, raise)?;
-    let calm = kinds::natural(rules, SetupKey::of(Field::Calm), 1, 1000)? as u16;
+    let calm = kinds::natural(rules, SetupKey::of(Field::Calm), CALM)? as u16;
     Ok(Rules {
         raise,
         cancel,

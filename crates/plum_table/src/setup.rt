@@ -10,7 +10,7 @@ use crate::kinds;
 use crate::levels::read_levels;
 use crate::rules::read_rules;
 use crate::stages::read_cascade;
-use plum_base::{Gain, Setup};
+use plum_base::{GAIN_G, GAIN_H, Gain, LANES, QUEUE, Setup};
 use std::alloc::Global;
 use toml::Table;
 
@@ -19,8 +19,8 @@ fn read_gain(gain: &Table) -> Result<Gain, SetupFault>
     ensures value { result ≡ gain_of (table_view gain.now) }
     ensures range { IfOk result (λ gain. IsGain gain.g gain.h) }
 {
-    let g = kinds::natural(gain, SetupKey::of(Field::GainG), 1, 1 << 31)?;
-    let h = kinds::natural(gain, SetupKey::of(Field::GainH), 0, 31)? as u8;
+    let g = kinds::natural(gain, SetupKey::of(Field::GainG), GAIN_G)?;
+    let h = kinds::natural(gain, SetupKey::of(Field::GainH), GAIN_H)? as u8;
     Ok(Gain { g, h })
 }
 
@@ -29,8 +29,8 @@ fn walk(file: &Table) -> Result<Setup, SetupFault>
     ensures ok { IfOk result (λ s. setup_in (table_view file.now) ≡ Ok (fields_of s)) }
     ensures fault { IfErr result (λ fault. setup_in (table_view file.now) ≡ Err fault) }
 {
-    let lanes = kinds::natural(file, SetupKey::of(Field::Lanes), 1, 16)? as u16;
-    let queue = kinds::natural(file, SetupKey::of(Field::Queue), 1, 65536)?;
+    let lanes = kinds::natural(file, SetupKey::of(Field::Lanes), LANES)? as u16;
+    let queue = kinds::natural(file, SetupKey::of(Field::Queue), QUEUE)?;
     let gain = read_gain(kinds::table(file, SetupKey::of(Field::Gain))?)?;
     let cascade = read_cascade(file)?;
     let levels = read_levels(kinds::table(file, SetupKey::of(Field::Levels))?)?;

@@ -4,7 +4,7 @@ ghost use Rattle.std.specs.Prelude.{◌≡◌, ◌≤◌, length, All, IfOk};
 ghost use Rattle.std.specs.Result.{result_map_both};
 ghost use Rattle.toml.specs.Data.{as_table};
 ghost use Rattle.toml.specs.View.{table_view};
-ghost use Rattle.plum_base.specs.Cascade.{IsCoefficient, IsStage};
+ghost use Rattle.plum_base.specs.Cascade.{MOST_STAGES as most, IsCoefficient, IsStage};
 ghost use Rattle.plum_table.specs.Keys.{stage_key};
 ghost use Rattle.plum_table.specs.Kinds.{walk_from};
 ghost use Rattle.plum_table.specs.Values.{AreAll, values_as};
@@ -13,7 +13,7 @@ ghost use Rattle.plum_table.specs.Stages.{coefficient_at, rounding_of, stage_of,
 use crate::fault::{Field, SetupFault, SetupKey};
 use crate::kinds;
 use arrayvec::ArrayVec;
-use plum_base::{Cascade, Rounding, Stage};
+use plum_base::{Cascade, GREATEST_COEFFICIENT, MOST_STAGES, Rounding, STAGE_Q, Stage};
 use toml::{Table, Value};
 
 /// A coefficient of the stage with this number, from 0.
@@ -22,7 +22,8 @@ fn coefficient(stage: &Table, field: Field, number: u8) -> Result<i32, SetupFaul
     ensures range { IfOk result IsCoefficient }
 {
     let key = SetupKey::of_stage(field, number);
-    Ok(kinds::integer(stage, key, -(1 << 30), 1 << 30)? as i32)
+    let end = GREATEST_COEFFICIENT as i64;
+    Ok(kinds::integer(stage, key, -end, end)? as i32)
 }
 
 /// The rounding that has this name.
@@ -46,7 +47,7 @@ fn read_stage(stage: &Table, number: u8) -> Result<Stage, SetupFault>
     let b2 = coefficient(stage, Field::B2, number)?;
     let a1 = coefficient(stage, Field::A1, number)?;
     let a2 = coefficient(stage, Field::A2, number)?;
-    let q = kinds::natural(stage, SetupKey::of_stage(Field::Q, number), 1, 30)? as u8;
+    let q = kinds::natural(stage, SetupKey::of_stage(Field::Q, number), STAGE_Q)? as u8;
     let key = SetupKey::of_stage(Field::Round, number);
     let round = rounding(kinds::text(stage, key)?, key)?;
     Ok(Stage {
@@ -62,7 +63,7 @@ fn read_stage(stage: &Table, number: u8) -> Result<Stage, SetupFault>
 
 /// The stages of these tables.
 fn read_stages(tables: &[Value]) -> Result<ArrayVec<Stage, 8>, SetupFault>
-    requires few { length tables.now ≤ 8 }
+    requires few { length tables.now ≤ most }
     requires tables { AreAll as_table tables.now }
     ensures value { result_map_both (λ s. s.items) (λ e. e) result
         ≡ walk_from stage_of 0 (values_as as_table tables.now) }
@@ -89,6 +90,6 @@ fn cascade_of(stages: ArrayVec<Stage, 8>) -> Cascade
 pub fn read_cascade(file: &Table) -> Result<Cascade, SetupFault>
     ensures { result ≡ stages_of (table_view file.now) }
 {
-    let tables = kinds::tables(file, SetupKey::of(Field::Stages), 8)?;
+    let tables = kinds::tables(file, SetupKey::of(Field::Stages), MOST_STAGES)?;
     Ok(cascade_of(read_stages(tables)?))
 }

@@ -1,6 +1,6 @@
 -- The lines of a journal tell its notes.
 use Rattle.std.proofs.Common.{◌≡◌, ◌≢◌, ℕ, ◌+◌, ◌<◌, Bool, List, [], ◌∷◌, ◌++◌, length, get_or, map}
-use Rattle.std.proofs.Common.{All, AllPairs, Option, inl, inr, refl, sym, ap, ◌∙◌, arith}
+use Rattle.std.proofs.Common.{All, Option, inl, inr, refl, sym, ap, ◌∙◌, arith}
 use Rattle.std.proofs.lemmas.Bool.{cases_lt}
 use Rattle.std.proofs.lemmas.List.Elements.{recursion_from_All}
 use Rattle.std.proofs.lemmas.Option.{slice_get-get_or}
@@ -10,12 +10,9 @@ use Rattle.plum_base.specs.declared.note.Note.{Note}
 use Rattle.plum_base.specs.declared.numbers.Key.{Key}
 use Rattle.plum_base.specs.declared.numbers.Tenths.{Tenths}
 use Rattle.plum_base.specs.declared.sites.StationSite.{StationSite}
+use Rattle.plum_base.specs.Sites.{AreCodesDistinct}
 use Rattle.plum_text.specs.Texts.{code_in, code_of_station, line_of_note, lines_from, note_of}
 use Rattle.plum_text.specs.Texts.{notes_from}
-
--- No two of these stations have one code.
-abbrev pub AreDistinct : List StationSite → Type 0
-AreDistinct stations = AllPairs (λ a b. a.code ≢ b.code) stations
 
 -- the code of a listed station
 code_at : (stations : List StationSite) (n : ℕ) (d : StationSite) → n < length stations
@@ -23,14 +20,14 @@ code_at : (stations : List StationSite) (n : ℕ) (d : StationSite) → n < leng
 code_at stations n d listed = ap code_in (slice_get-get_or stations n d listed)
 
 -- an earlier station has another code than a later one
-apart : (stations : List StationSite) (a b : ℕ) (d : StationSite) → AreDistinct stations → a < b
+apart : (stations : List StationSite) (a b : ℕ) (d : StationSite) → AreCodesDistinct stations → a < b
     → b < length stations → code_of_station stations a ≢ code_of_station stations b
 apart stations a b d distinct before listed same =
     distinct a b d before listed
     (sym (code_at stations a d (omega arith)) ∙ same ∙ code_at stations b d listed)
 
 -- Listed stations of one code are one.
-one_station : (stations : List StationSite) (a b : ℕ) → AreDistinct stations → a < length stations
+one_station : (stations : List StationSite) (a b : ℕ) → AreCodesDistinct stations → a < length stations
     → b < length stations → code_of_station stations a ≡ code_of_station stations b → a ≡ b
 one_station [] a b distinct la lb same = absurd (omega arith)
 one_station (s ∷ stations) a b distinct la lb same = elim (cases_lt a b) [
@@ -57,7 +54,7 @@ same_numbered g₁ g₂ s₁ s₂ k₁ k₂ f₁ f₂ v₁ v₂ g s k f v = cc
 abbrev pub IsListed : List StationSite → ℕ × Note → Type 0
 IsListed stations note = note.1.station.0 < length stations
 
-module _ (stations : List StationSite) (distinct : AreDistinct stations) where
+module _ (stations : List StationSite) (distinct : AreCodesDistinct stations) where
   -- a line tells its note
   one_note : (n : ℕ) (a b : ℕ × Note) → IsListed stations a → IsListed stations b
       → line_of_note stations n a ≡ line_of_note stations n b → a ≡ b

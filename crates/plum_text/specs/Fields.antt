@@ -3,7 +3,6 @@ use Rattle.std.specs.Prelude.{ℕ, Bool, true, false, List, [], ◌∷◌, ◌++
 use Rattle.std.specs.Prelude.{◌≢◌, ◌<◌, ◌^◌, All, IfSome, codes, decimal, FitsSigned}
 use Rattle.std.specs.Int.{w16}
 use Rattle.std.specs.List.{flat_map}
-use Rattle.plum_base.specs.declared.numbers.Key.{Key}
 use Rattle.plum_base.specs.declared.numbers.Tenths.{Tenths}
 use Rattle.plum_base.specs.declared.packet.PacketFault.{PacketFault}
 use Rattle.plum_base.specs.declared.packet.PacketFault.TheVariants.{Short, Magic, Version, Flags}
@@ -57,19 +56,19 @@ alert_fields (Raise class) = codes "raise" ∷ class_text class ∷ []
 alert_fields (Upgrade class) = codes "upgrade" ∷ class_text class ∷ []
 alert_fields Cancel = codes "cancel" ∷ []
 
--- What the types of fields hold: so many bits, and tenths sixteen with a sign.
+-- What the types of fields hold: so many bits ..
 abbrev pub Fits : ℕ → ℕ → Type 0
 Fits bits n = n < 2 ^ bits
 
+-- .. tenths sixteen of them, with a sign ..
 abbrev pub FitsTenths : Tenths → Type 0
 FitsTenths t = FitsSigned w16 t.0
 
+-- .. a value none or tenths ..
 abbrev pub FitsValue : Option Tenths → Type 0
 FitsValue value = IfSome value FitsTenths
 
-abbrev pub FitsKey : Key → Type 0
-FitsKey key = Fits 16 key.boot × Fits 32 key.number
-
+-- .. and a fault what it tells.
 abbrev pub FitsFault : PacketFault → Type 0
 FitsFault Short = ⊤
 FitsFault Magic = ⊤

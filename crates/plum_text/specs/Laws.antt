@@ -1,10 +1,11 @@
 -- What lines and texts tell: all that stands in them.
-use Rattle.std.specs.Prelude.{◌≡◌, ◌≢◌, ◌+◌, ◌<◌, ◌≤◌, ℕ, ⊤, List, length, slice_get, All, AllPairs}
+use Rattle.std.specs.Prelude.{◌≡◌, ◌≢◌, ◌+◌, ◌<◌, ◌≤◌, ℕ, ⊤, List, length, slice_get, All}
 use Rattle.std.specs.Prelude.{Some, option_map}
 use Rattle.std.specs.List.{AllByRecursion}
 use Rattle.plum_scale.specs.Classes.{class_of}
 use Rattle.plum_text.specs.declared.lines.OutLine.TheVariants.{Mark, Reading, Answer, Alert, Totals}
 use Rattle.plum_base.specs.Counts.{AddUp}
+use Rattle.plum_base.specs.Sites.{AreCodesDistinct}
 use Rattle.plum_base.specs.declared.entry.Entry.{Entry}
 use Rattle.plum_base.specs.declared.sites.StationSite.{StationSite}
 use Rattle.plum_base.specs.declared.sites.TargetSite.{TargetSite}
@@ -33,7 +34,7 @@ pub record CanBeTold (stations : List StationSite) (parts : List (List Entry)) :
 -- segment, station, key, run and value.
 abbrev pub JournalTells : Type 0
 JournalTells = (stations : List StationSite) (parts others : List (List Entry))
-    → AllPairs (λ a b. a.code ≢ b.code) stations
+    → AreCodesDistinct stations
     → CanBeTold stations parts → CanBeTold stations others
     → journal_text stations parts ≡ journal_text stations others
     → notes_from 1 parts ≡ notes_from 1 others
@@ -64,8 +65,10 @@ ClassesAreOfValues = (targets : List TargetSite) (sections : List Section) (tail
 
 -- In a line of counts each body is counted once.
 abbrev pub SaysItsSum : OutLine → Type 0
-SaysItsSum (Mark m bodies kept repeats refused) = bodies ≡ kept + repeats + refused
-SaysItsSum (Totals segments bodies kept repeats refused) = bodies ≡ kept + repeats + refused
+SaysItsSum (Mark m bodies kept repeats refused) =
+    AddUp (record { bodies = bodies; kept = kept; repeats = repeats; refused = refused })
+SaysItsSum (Totals segments bodies kept repeats refused) =
+    AddUp (record { bodies = bodies; kept = kept; repeats = repeats; refused = refused })
 SaysItsSum l = ⊤
 
 abbrev pub SumsAddUp : Type 0

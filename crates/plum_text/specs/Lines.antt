@@ -3,6 +3,7 @@
 -- part of it: they hold of the texts.
 use Rattle.std.specs.Prelude.{◌≡◌, ℕ, List, [], ◌∷◌, codes, decimal}
 use Rattle.plum_base.specs.Name.{IsName}
+use Rattle.plum_base.specs.Packet.{FitsKey}
 use Rattle.plum_text.specs.declared.lines.JournalLine.{JournalLine}
 use Rattle.plum_text.specs.declared.lines.OutLine.{OutLine}
 use Rattle.plum_text.specs.declared.lines.OutLine.TheVariants.{Mark, Refused, Reading, Answer}
@@ -10,7 +11,7 @@ use Rattle.plum_text.specs.declared.lines.OutLine.TheVariants.{Alert, Tail, Tota
 use Rattle.plum_text.specs.declared.lines.PlainLine.{PlainLine}
 use Rattle.plum_text.specs.declared.lines.PlainLine.TheVariants.{Value, Counts, Drill}
 use Rattle.plum_text.specs.Fields.{line, value_text, class_or_none_text, run_text, fault_fields}
-use Rattle.plum_text.specs.Fields.{alert_fields, Fits, FitsValue, FitsKey, FitsFault}
+use Rattle.plum_text.specs.Fields.{alert_fields, Fits, FitsValue, FitsFault}
 
 -- E n segment station boot number run value
 abbrev pub journal_fields : JournalLine → List (List ℕ)

@@ -8,7 +8,7 @@ use Rattle.plum_host.specs.declared.host.In.TheVariants.{Capture}
 use Rattle.plum_host.proofs.Frames.{OnlyReads-join, CountsNothing-join}
 use Rattle.plum_packet.specs.declared.records.Progress.TheVariants.{Open}
 use Rattle.plum_packet.specs.Reading.{MOST_RECORDS, HasGiven, HoldsBodies}
-use Rattle.plum_core.specs.History.{AreListed}
+use Rattle.plum_base.specs.Packet.{AreListed}
 use Rattle.plum_replay.proofs.Capturing.{is_open, from_read, from_limit, bodies-push, count_more}
 use Rattle.plum_replay.proofs.Capturing.{within, too_many, ok_differs, some_differs}
 use Rattle.plum_replay.proofs.capture.read_capture.Given as given

@@ -1,5 +1,5 @@
 use Rattle.std.specs.Vec.Iter.{into_iter_items}
-use Rattle.plum_core.specs.History.{AreListed}
+use Rattle.plum_base.specs.Packet.{AreListed}
 use Rattle.plum_core.specs.Station.{size_of}
 use Rattle.plum_replay.specs.Taking.{TakesPackets}
 use Rattle.plum_replay.proofs.centre.take_packets.Given as goal

@@ -8,7 +8,7 @@ use Rattle.std.proofs.lemmas.List.Sums.{sum_by-cons}
 use Rattle.std.specs.Vec.Iter.{into_iter_items}
 use Rattle.plum_host.specs.declared.host.To.TheVariants.{Out, Journal}
 use Rattle.plum_packet.specs.Reading.{HoldsBodies, bodies_in}
-use Rattle.plum_core.specs.History.{AreListed}
+use Rattle.plum_base.specs.Packet.{AreListed}
 use Rattle.plum_packet.specs.Segments.{Decoded}
 use Rattle.plum_replay.specs.Centre.{HasReplayed, ReplaysOneMore, no_transcript}
 use Rattle.plum_replay.specs.Written.{HasWritten}

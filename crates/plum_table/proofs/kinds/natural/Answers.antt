@@ -11,10 +11,10 @@ pub returns-clause-value : goal.returns-clause-value
 returns-clause-value c =
     let same : c.unsigned_abs.result ≡ nat_abs c.in_ok-integer.field-0 =
     grind (arith, ints, c.unsigned_abs.ensures.value) in
-    let low : to_z w64 (of_z w64 c.from.result) ≡ pos c.args.low =
-    grind (arith, ints, c.from.ensures) in
-    let high : to_z w64 (of_z w64 c.from-2.result) ≡ pos c.args.high =
-    grind (arith, ints, c.from-2.ensures) in
+    let low : to_z w64 (of_z w64 c.from-low.result) ≡ pos c.args.bounds.low =
+    grind (arith, ints, c.from-low.ensures) in
+    let high : to_z w64 (of_z w64 c.from-high.result) ≡ pos c.args.bounds.high =
+    grind (arith, ints, c.from-high.ensures) in
     let read = c.in_ok-integer.ensures.value in
     ap Ok same ∙ ap (λ r. r >>= (λ z. Ok (nat_abs z))) read ∙ rw (low, high)
 

@@ -4,7 +4,7 @@ use Rattle.std.proofs.lemmas.List.Elements.{All-push}
 use Rattle.std.proofs.lemmas.Result.{err_from_is_err_and}
 use Rattle.toml.specs.Data.{as_integer}
 use Rattle.toml.specs.View.{view}
-use Rattle.plum_base.specs.Levels.{greatest_amplitude}
+use Rattle.plum_base.specs.Levels.{GREATEST_AMPLITUDE}
 use Rattle.plum_table.specs.Levels.{threshold_of}
 use Rattle.plum_table.proofs.Walks.{read_more, read_fault}
 use Rattle.plum_table.proofs.levels.read_thresholds.Goals as goal
@@ -32,6 +32,6 @@ loop-value-preserved c =
           (read_more (λ _ z. threshold_of z) as_integer _ _ _ v _ _ (omega arith)
           (sym c.value-item.is) kind (sym read) c.loop-value.invariant.0),
       rw c.push.ensures.items
-          (All-push (λ t. t ≤ greatest_amplitude) _ _ c.loop-value.invariant.1
+          (All-push (λ t. t ≤ GREATEST_AMPLITUDE) _ _ c.loop-value.invariant.1
           c.in_ok-threshold.ensures.range),
     )

@@ -1,5 +1,6 @@
 use Rattle.std.proofs.Common.{◌≡◌, ◌-◌}
-use Rattle.plum_level.specs.Tallies.{MOST_LEVELS, IsTally}
+use Rattle.plum_base.specs.Levels.{MOST_LEVELS}
+use Rattle.plum_level.specs.Tallies.{IsTally}
 use Rattle.plum_level.proofs.tally.Tally.climb.Given as goal
 
 abbrev pub invariant-loop-self : goal.invariant-loop-self
