@@ -1,17 +1,17 @@
 -- What stands in the outputs of a replay that stopped.
 use Rattle.std.specs.Prelude.{◌≡◌, ◌==◌, ◌-◌, ◌⊎◌, if◌then◌else◌, ℕ, List, [], ◌++◌, length, map}
-use Rattle.std.specs.Prelude.{take, Some}
+use Rattle.std.specs.Prelude.{take}
 use Rattle.plum_base.specs.declared.entry.Entry.{Entry}
 use Rattle.plum_base.specs.declared.setup.Setup.{Setup}
 use Rattle.plum_base.specs.declared.sites.TargetSite.{TargetSite}
 use Rattle.plum_base.specs.Sites.{SitesView}
 use Rattle.plum_host.specs.declared.host.In.TheVariants.{Capture}
 use Rattle.plum_host.specs.declared.host.To.TheVariants.{Out, Journal}
-use Rattle.plum_host.specs.Told.{HostView, Appends}
-use Rattle.plum_packet.specs.Reading.{MOST_RECORDS, HasMoreRecords}
+use Rattle.plum_host.specs.Told.{HostView, WhereTold, Appends}
 use Rattle.plum_packet.specs.Segments.{Decoded, packets_in, IsCaptureOf}
 use Rattle.plum_core.specs.Transcript.{Transcript, IsLegalUpTo}
 use Rattle.plum_text.specs.Texts.{Section, journal_text, out_text}
+use Rattle.plum_replay.specs.Captured.{IsReadToEnd, HasNoneTooMany}
 use Rattle.plum_replay.specs.Parts.{sections_text}
 use Rattle.plum_replay.specs.Sections.{AreSections}
 
@@ -65,9 +65,8 @@ AppendsBegun setup sites capture before after =
 -- So it is where the host tells the capture, which is read to its end and has no more records than
 -- a replay takes.
 abbrev pub BeginsReplay : Setup → SitesView → HostView → HostView → Type 0
-BeginsReplay setup sites before after = (capture : List ℕ) → before.left Capture ≡ Some capture
-    → AppendsBegun setup sites capture before after × (after.left Capture ≡ Some [])
-    × (¬ HasMoreRecords capture MOST_RECORDS)
+BeginsReplay setup sites before after = WhereTold before Capture (λ capture.
+    AppendsBegun setup sites capture before after × IsReadToEnd after × HasNoneTooMany capture)
 
 -- Nothing is appended to either output.
 pub record AppendsNothing (before after : HostView) : Type 0 where
@@ -83,5 +82,4 @@ StopsInOrder setup sites before after =
 -- more records than a replay takes.
 abbrev pub StopsAtAnEnd : HostView → HostView → Type 0
 StopsAtAnEnd before after = (after.left Capture ≡ before.left Capture)
-    ⊎ ((capture : List ℕ) → before.left Capture ≡ Some capture
-    → (after.left Capture ≡ Some []) × (¬ HasMoreRecords capture MOST_RECORDS))
+    ⊎ WhereTold before Capture (λ capture. IsReadToEnd after × HasNoneTooMany capture)

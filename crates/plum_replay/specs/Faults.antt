@@ -8,10 +8,12 @@ use Rattle.plum_packet.specs.declared.segments.SegmentFault.TheVariants as segme
 use Rattle.plum_replay.specs.declared.fault.ReplayFault.{ReplayFault}
 use Rattle.plum_replay.specs.declared.fault.ReplayFault.TheVariants.{Read, Write, Limit, NoMemory}
 
+-- a refused write, as a fault of a replay
 abbrev pub fault_of_write : WriteRefusal → ReplayFault
 fault_of_write refusals.Failed = Write
 fault_of_write refusals.NoMemory = NoMemory
 
+-- a fault of the reader of segments, as one of a replay
 abbrev pub fault_of_segments : SegmentFault → ReplayFault
 fault_of_segments segments.Read = Read
 fault_of_segments segments.Limit = Limit

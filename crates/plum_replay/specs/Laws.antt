@@ -6,7 +6,7 @@ use Rattle.plum_base.specs.Levels.{IsLevelTable}
 use Rattle.plum_base.specs.Name.{IsName}
 use Rattle.plum_base.specs.Sites.{SitesView, AreLawful}
 use Rattle.plum_packet.specs.Capture.{AreBytes}
-use Rattle.plum_packet.specs.Reading.{MOST_RECORDS, HasMoreRecords}
+use Rattle.plum_replay.specs.Captured.{HasNoneTooMany}
 use Rattle.plum_replay.specs.Replayed.{IsReplay}
 
 -- The targets' names and their areas' are names, as those of all real sites are: a ghost variable
@@ -19,6 +19,6 @@ pub record AreNamed (targets : List TargetSite) : Type 0 where
 abbrev pub OneTranscript : Type 0
 OneTranscript = (setup : Setup) (sites : SitesView) (capture journal output : List ℕ)
     → IsLevelTable setup.levels → AreLawful sites.stations sites.targets → AreNamed sites.targets
-    → AreBytes capture → ¬ HasMoreRecords capture MOST_RECORDS
+    → AreBytes capture → HasNoneTooMany capture
     → (replay other : IsReplay setup sites capture journal output)
     → replay.transcript ≡ other.transcript

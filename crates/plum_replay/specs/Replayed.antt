@@ -1,17 +1,16 @@
 -- What a replay wrote, and why it is right.
-use Rattle.std.specs.Prelude.{◌≡◌, ℕ, List, [], length, map}
-use Rattle.std.specs.Prelude.{Some}
+use Rattle.std.specs.Prelude.{◌≡◌, ℕ, List, length, map}
 use Rattle.plum_base.specs.declared.counts.Counts.{Counts}
 use Rattle.plum_base.specs.declared.setup.Setup.{Setup}
 use Rattle.plum_base.specs.Sites.{SitesView}
 use Rattle.plum_host.specs.declared.host.In.TheVariants.{Capture}
 use Rattle.plum_host.specs.declared.host.To.TheVariants.{Out, Journal}
-use Rattle.plum_host.specs.Told.{HostView, Appends}
-use Rattle.plum_packet.specs.Reading.{MOST_RECORDS, HasMoreRecords}
+use Rattle.plum_host.specs.Told.{HostView, WhereTold, Appends}
 use Rattle.plum_packet.specs.Segments.{Decoded, packets_in, IsCaptureOf}
 use Rattle.plum_core.specs.Transcript.{Transcript, IsLegal}
 use Rattle.plum_text.specs.Texts.{Section, journal_text, out_text, totals_of}
 use Rattle.plum_replay.specs.declared.totals.Totals.{Totals}
+use Rattle.plum_replay.specs.Captured.{IsReadToEnd, HasNoneTooMany}
 use Rattle.plum_replay.specs.Sections.{AreSections}
 
 -- The journal and the output are the two texts of one transcript, which is legal for the segments
@@ -49,7 +48,8 @@ counts_in_all totals = record {
 }
 
 -- The two texts of a replay of this capture are appended to what the journal and the output held,
--- and these are its totals. The capture is read to its end, and has no more records than are read.
+-- and these are its totals. The capture is read to its end, and has no more records than a replay
+-- takes.
 pub record AppendsReplay (setup : Setup) (sites : SitesView) (totals : Totals)
     (capture : List ℕ) (before after : HostView) : Type 0 where
   pub journal : List ℕ
@@ -58,10 +58,10 @@ pub record AppendsReplay (setup : Setup) (sites : SitesView) (totals : Totals)
   pub journal_appended : Appends (before.held Journal) (after.held Journal) journal
   pub output_appended : Appends (before.held Out) (after.held Out) output
   pub totals_are : totals ≡ totals_in replay.sections replay.tail
-  pub read_whole : after.left Capture ≡ Some []
-  pub few : ¬ HasMoreRecords capture MOST_RECORDS
+  pub read_whole : IsReadToEnd after
+  pub few : HasNoneTooMany capture
 
 -- Where the host tells the capture: its two texts are appended.
 abbrev pub ReplaysCapture : Setup → SitesView → Totals → HostView → HostView → Type 0
-ReplaysCapture setup sites totals before after = (capture : List ℕ)
-    → before.left Capture ≡ Some capture → AppendsReplay setup sites totals capture before after
+ReplaysCapture setup sites totals before after = WhereTold before Capture (λ capture.
+    AppendsReplay setup sites totals capture before after)
