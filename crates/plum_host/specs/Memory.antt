@@ -37,6 +37,7 @@ host_of files reads writes = record {
   writes = writes;
 }
 
+-- what is left of an input
 abbrev pub left_of : MemHostView → In → List ℕ
 left_of m inputs.Setup = m.setup
 left_of m inputs.Stations = m.stations
@@ -45,6 +46,7 @@ left_of m inputs.Capture = m.capture
 left_of m inputs.Journal = m.journal
 left_of m inputs.Output = m.output
 
+-- what an output holds
 abbrev pub held_by : MemHostView → To → List ℕ
 held_by m outputs.Out = m.out_written
 held_by m outputs.Journal = m.journal_written

@@ -22,6 +22,7 @@ impl Model for PathText {
 }
 
 impl PathText {
+    /// The path that the text names.
     pub fn new(alloc: Global, text: &str) -> Result<PathText, NoMemory>
         ensures { IfOk result (λ p. p ≡ text.now) }
     {
@@ -30,6 +31,7 @@ impl PathText {
         })
     }
 
+    /// Its text.
     pub fn as_str(&self) -> &str
         ensures { result.now ≡ self.now }
     {

@@ -41,6 +41,8 @@ fn is_listed(numbers: &[u32], call: u64) -> bool
 impl Schedule {
     ghost use Rattle.std.specs.Prelude.{◌≤◌};
 
+    /// A schedule of calls that move at most `step` bytes, of which those of these numbers, from 1,
+    /// fail, and of which none was made.
     pub fn new(step: u32, failing: Vec<u32>) -> Schedule
         requires { 1 ≤ step }
         ensures { result ≡ schedule_of step failing.items }
