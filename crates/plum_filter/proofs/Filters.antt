@@ -7,9 +7,10 @@ use Rattle.std.proofs.lemmas.List.Edits.{map_over_more}
 use Rattle.std.specs.List.{refill}
 use Rattle.plum_base.specs.declared.cascade.Stage.{Stage}
 use Rattle.plum_filter.specs.declared.biquad.Biquad.{Biquad}
-use Rattle.plum_filter.specs.Stage.{term, stage_output, cascade_output}
+use Rattle.plum_filter.specs.Stage.{term, delayed, stage_output, cascade_output}
 use Rattle.plum_filter.specs.Filter.{answer_of, moved_on, biquad_after, new_biquad, biquads_after}
 use Rattle.plum_filter.specs.Filter.{StandsFor, JoinsInput}
+use Rattle.plum_filter.proofs.Biquads.{biquad_at-same, answer_of-at}
 use Rattle.plum_filter.proofs.Outputs.{stage_output-push, stage_output-none}
 
 -- the last of what the stages answer to x, each of which is given the answer of the one before
@@ -34,17 +35,28 @@ last_but_one_pushed : (second first : ℤ) (xs : List ℤ) (x : ℤ)
 last_but_one_pushed second first [] x = refl
 last_but_one_pushed second first (z ∷ zs) x = last_but_one_pushed first z zs x
 
--- A stage that moves on holds the last terms of the longer sequences.
+-- A stage that moves on holds what its longer past adds.
 biquad_after-push : (s : Stage) (xs ys : List ℤ) (x : ℤ)
     → let b = biquad_after s xs ys in
     moved_on b x ≡ biquad_after s (xs ++ x ∷ []) (ys ++ answer_of b x ∷ [])
 biquad_after-push s xs ys x =
     let y = answer_of (biquad_after s xs ys) x in
-    let x1 = last_pushed (pos 0) xs x in
-    let x2 = last_but_one_pushed (pos 0) (pos 0) xs x in
-    let y1 = last_pushed (pos 0) ys y in
-    let y2 = last_but_one_pushed (pos 0) (pos 0) ys y in
-    cc
+    let x1 = sym (last_pushed (pos 0) xs x) in
+    let x2 = sym (last_but_one_pushed (pos 0) (pos 0) xs x) in
+    let y1 = sym (last_pushed (pos 0) ys y) in
+    let y2 = sym (last_but_one_pushed (pos 0) (pos 0) ys y) in
+    biquad_at-same s _ _ _ _ _ _ _ _ x1 x2 y1 y2
+
+-- What it answers is the next term of its output.
+output-push : (s : Stage) (xs : List ℤ) (x : ℤ)
+    → let ys = stage_output s xs in
+    stage_output s (xs ++ x ∷ []) ≡ ys ++ answer_of (biquad_after s xs ys) x ∷ []
+output-push s xs x =
+    let ys = stage_output s xs in
+    stage_output-push s xs x
+    ∙ ap (λ y. ys ++ y ∷ []) (sym (answer_of-at s x (term (delayed xs) (length xs))
+    (term (delayed (delayed xs)) (length xs)) (term (delayed ys) (length ys))
+    (term (delayed (delayed ys)) (length ys))))
 
 -- What stands for the inputs, moved on, stands for one more.
 biquads_after-push : (ss : List Stage) (xs : List ℤ) (x : ℤ)
@@ -53,10 +65,8 @@ biquads_after-push [] xs x = refl
 biquads_after-push (s ∷ ss) xs x =
     let ys = stage_output s xs in
     let b = biquad_after s xs ys in
-    let more : stage_output s (xs ++ x ∷ []) ≡ ys ++ answer_of b x ∷ [] =
-    stage_output-push s xs x in
     subst (λ zs. moved_on b x ∷ moved_through (biquads_after ss ys) (answer_of b x)
-    ≡ biquad_after s (xs ++ x ∷ []) zs ∷ biquads_after ss zs) (sym more)
+    ≡ biquad_after s (xs ++ x ∷ []) zs ∷ biquads_after ss zs) (sym (output-push s xs x))
     (ap (λ c. c ∷ moved_through (biquads_after ss ys) (answer_of b x)) (biquad_after-push s xs ys x)
     ∙ ap (λ bs. biquad_after s (xs ++ x ∷ []) (ys ++ answer_of b x ∷ []) ∷ bs)
     (biquads_after-push ss ys (answer_of b x)))
@@ -68,7 +78,7 @@ cascade_output-push : (ss : List Stage) (xs : List ℤ) (x : ℤ)
 cascade_output-push [] xs x = refl
 cascade_output-push (s ∷ ss) xs x =
     let ys = stage_output s xs in
-    ap (cascade_output ss) (stage_output-push s xs x)
+    ap (cascade_output ss) (output-push s xs x)
     ∙ cascade_output-push ss ys (answer_of (biquad_after s xs ys) x)
 
 -- Passing a term through all stages joins it to the inputs.
@@ -86,6 +96,7 @@ JoinsInput-through before after x y moved answered = record {
 
 -- A cascade before its first input: each of its stages is new.
 pub biquads_after-none : (ss : List Stage) → biquads_after ss [] ≡ map new_biquad ss
+unfolding new_biquad
 biquads_after-none [] = refl
 biquads_after-none (s ∷ ss) =
     subst (λ ys. biquad_after s [] ys ∷ biquads_after ss ys ≡ new_biquad s ∷ map new_biquad ss)

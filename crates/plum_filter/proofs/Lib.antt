@@ -1,3 +1,3 @@
 pub mod Outputs
+pub mod Biquads
 pub mod Filters
-pub mod Sums

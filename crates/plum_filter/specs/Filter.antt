@@ -1,43 +1,64 @@
--- A filter's numbers, four a stage, against whole sequences (the project's own).
-use Rattle.std.specs.Prelude.{◌≡◌, ℤ, List, [], ◌∷◌, ◌++◌, length}
+-- A filter's numbers, three a stage, against whole sequences (the project's own).
+use Rattle.std.specs.Prelude.{◌≡◌, ℕ, ◌+◌, ◌-◌, ◌*◌, ◌^◌, ◌≤◌, ℤ, pos, ◌+ℤ◌, ◌-ℤ◌, ◌*ℤ◌}
+use Rattle.std.specs.Prelude.{unsigned_abs, List, [], ◌∷◌, ◌++◌, length}
+use Rattle.std.specs.Int.{int_div_euclid}
 use Rattle.plum_base.specs.declared.cascade.Stage.{Stage}
+use Rattle.plum_base.specs.declared.cascade.Rounding.{Rounding}
+use Rattle.plum_base.specs.declared.cascade.Rounding.TheVariants.{Floor, Nearest}
 use Rattle.plum_base.specs.Cascade.{IsStage}
 use Rattle.plum_filter.specs.declared.biquad.Biquad.{Biquad}
-use Rattle.plum_filter.specs.Stage.{IsTerm, weighted, answer_to, term, delayed}
-use Rattle.plum_filter.specs.Stage.{stage_output, cascade_output}
+use Rattle.plum_filter.specs.Stage.{clamped, term, delayed, stage_output, cascade_output}
 
--- The stage and its four terms are in their ranges.
+-- what is added to a sum before it is divided by 2^q and rounded down: half of that rounds to the
+-- nearest
+abbrev pub half_of : Rounding → ℕ → ℕ
+half_of Floor q = 0
+half_of Nearest q = 2 ^ (q - 1)
+
+-- The stage is in its ranges, the half is that of its rounding, and the two sums are of at most
+-- four, and two, products and the half.
 pub record IsBiquad (b : Biquad) : Type 0 where
   pub stage : IsStage b.stage
-  pub x1 : IsTerm b.x1
-  pub x2 : IsTerm b.x2
-  pub y1 : IsTerm b.y1
-  pub y2 : IsTerm b.y2
+  pub half : b.half ≡ pos (half_of b.stage.round b.stage.q)
+  pub next : unsigned_abs b.next ≤ 4 * 2 ^ 60 + 2 ^ 29
+  pub later : unsigned_abs b.later ≤ 2 * 2 ^ 60 + 2 ^ 29
 
--- the sum of its equation at one term more of its input
-abbrev pub weighted_of : Biquad → ℤ → ℤ
-weighted_of b x = weighted b.stage x b.x1 b.x2 b.y1 b.y2
-
--- what it answers to that term
+-- what it answers to one term more of its input
 abbrev pub answer_of : Biquad → ℤ → ℤ
-answer_of b x = answer_to b.stage x b.x1 b.x2 b.y1 b.y2
+answer_of b x =
+    clamped (int_div_euclid (b.next +ℤ b.stage.b0 *ℤ x) (pos (2 ^ b.stage.q)))
 
 -- what it holds after that
 abbrev pub moved_on : Biquad → ℤ → Biquad
-moved_on b x = record { stage = b.stage; x1 = x; x2 = b.x1; y1 = answer_of b x; y2 = b.y1 }
+moved_on b x =
+    let y = answer_of b x in
+    record {
+      stage = b.stage;
+      half = b.half;
+      next = b.later +ℤ (b.stage.b1 *ℤ x -ℤ b.stage.a1 *ℤ y);
+      later = b.half +ℤ (b.stage.b2 *ℤ x -ℤ b.stage.a2 *ℤ y);
+    }
 
--- a stage that has answered ys to xs holds the two last terms of each, 0 where there is none
+-- a stage whose last terms are these, newest first: the sum of its next answer lacks only the
+-- newest term, and that of the one after it what the next step adds
+abbrev pub biquad_at : Stage → (x1 x2 y1 y2 : ℤ) → Biquad
+biquad_at s x1 x2 y1 y2 =
+    let half = pos (half_of s.round s.q) in
+    record {
+      stage = s;
+      half = half;
+      next = half +ℤ (s.b2 *ℤ x2 -ℤ s.a2 *ℤ y2) +ℤ (s.b1 *ℤ x1 -ℤ s.a1 *ℤ y1);
+      later = half +ℤ (s.b2 *ℤ x1 -ℤ s.a2 *ℤ y1);
+    }
+
+-- a stage that has answered ys to xs: its last terms are the two last of each, 0 where there is none
 abbrev pub biquad_after : Stage → List ℤ → List ℤ → Biquad
-biquad_after stage xs ys = record {
-  stage = stage;
-  x1 = term (delayed xs) (length xs);
-  x2 = term (delayed (delayed xs)) (length xs);
-  y1 = term (delayed ys) (length ys);
-  y2 = term (delayed (delayed ys)) (length ys);
-}
+biquad_after s xs ys =
+    biquad_at s (term (delayed xs) (length xs)) (term (delayed (delayed xs)) (length xs))
+    (term (delayed ys) (length ys)) (term (delayed (delayed ys)) (length ys))
 
 -- a stage before its first term
-abbrev pub new_biquad : Stage → Biquad
+unfoldable pub new_biquad : Stage → Biquad
 new_biquad stage = biquad_after stage [] []
 
 -- each stage of a cascade after the cascade was given xs: its input is the output of the one before

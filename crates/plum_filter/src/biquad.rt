@@ -1,25 +1,27 @@
-//! One biquad stage, with the terms before.
+//! One biquad stage, with what its past adds to its answers.
 
-ghost use Rattle.std.specs.Prelude.{◌≡◌, ◌-◌, ◌^◌, ◌*◌, ◌≤◌, pos, ◌+ℤ◌, ◌*ℤ◌, unsigned_abs};
-ghost use Rattle.plum_base.specs.declared.cascade.Rounding.TheVariants.{Floor, Nearest};
+ghost use Rattle.std.specs.Prelude.{◌≡◌, ◌^◌, ◌*◌, ◌+◌, ◌≤◌, pos, ◌+ℤ◌, ◌-ℤ◌, ◌*ℤ◌, unsigned_abs};
+ghost use Rattle.std.specs.Int.{int_div_euclid};
 ghost use Rattle.plum_base.specs.Cascade.{IsStage, IsCoefficient};
-ghost use Rattle.plum_filter.specs.Stage.{IsTerm, clamped, rounded};
-ghost use Rattle.plum_filter.specs.Filter.{IsBiquad, weighted_of, answer_of};
-ghost use Rattle.plum_filter.specs.Filter.{moved_on, new_biquad};
+ghost use Rattle.plum_filter.specs.Stage.{IsTerm, clamped};
+ghost use Rattle.plum_filter.specs.Filter.{half_of, IsBiquad, answer_of, moved_on, new_biquad};
 
 use plum_base::{Rounding, Stage};
 
 /// The greatest term, in filtered units.
 const GREATEST_TERM: i64 = 1 << 30;
 
-/// A stage, and the two terms of its input and of its output before, newest first.
+/// A stage, and what its past adds to the sums of its next two answers. So an answer waits for its
+/// newest term alone: a product, a sum, a shift and a clamp.
 #[derive(Clone, Copy, Default)]
 pub struct Biquad {
     pub stage: Stage,
-    pub x1: i32,
-    pub x2: i32,
-    pub y1: i32,
-    pub y2: i32,
+    /// What is added to each sum before it is divided.
+    pub half: i64,
+    /// The half, and what the past adds to the next sum.
+    pub next: i64,
+    /// The half, and what the past so far adds to the sum after the next.
+    pub later: i64,
 }
 
 /// A coefficient times a term.
@@ -32,12 +34,24 @@ fn product(coefficient: i32, term: i32) -> i64
     coefficient as i64 * term as i64
 }
 
+/// What a term of the input and the answer to it add to a later sum: the answer's part is taken
+/// away.
+fn added(b: i32, x: i32, a: i32, y: i32) -> i64
+    requires b { IsCoefficient b }
+    requires x { IsTerm x }
+    requires a { IsCoefficient a }
+    requires y { IsTerm y }
+    ensures value { result ≡ b *ℤ x -ℤ a *ℤ y }
+    ensures bound { unsigned_abs result ≤ 2 * 2 ^ 60 }
+{
+    product(b, x) - product(a, y)
+}
+
 /// What is added before a division by 2^q: half of it, to round to the nearest.
-fn rounding_term(round: Rounding, q: u8) -> i64
+fn half_of(round: Rounding, q: u8) -> i64
     requires low { 1 ≤ q }
     requires high { q ≤ 30 }
-    ensures floor { round ≡ Floor → result ≡ pos 0 }
-    ensures nearest { round ≡ Nearest → result ≡ pos (2 ^ (q - 1)) }
+    ensures { result ≡ pos (half_of round q) }
 {
     match round {
         Rounding::Floor => 0,
@@ -45,14 +59,12 @@ fn rounding_term(round: Rounding, q: u8) -> i64
     }
 }
 
-/// The sum divided by 2^q, rounded as the stage rounds.
-fn divided(sum: i64, q: u8, round: Rounding) -> i64
-    requires sum { unsigned_abs sum ≤ 5 * 2 ^ 60 }
-    requires low { 1 ≤ q }
-    requires high { q ≤ 30 }
-    ensures { result ≡ rounded round sum q }
+/// A sum divided by 2^q, rounded down.
+fn divided(sum: i64, q: u8) -> i64
+    requires { q ≤ 30 }
+    ensures { result ≡ int_div_euclid sum (pos (2 ^ q)) }
 {
-    (sum + rounding_term(round, q)) >> q
+    sum >> q
 }
 
 /// The number cut to the range of terms.
@@ -70,49 +82,35 @@ impl Biquad {
         ensures value { result ≡ new_biquad stage }
         ensures biquad { IsBiquad result }
     {
+        let half = half_of(stage.round, stage.q);
         Biquad {
             stage,
-            x1: 0,
-            x2: 0,
-            y1: 0,
-            y2: 0,
+            half,
+            next: half,
+            later: half,
         }
     }
 
-    /// The part of the sum that comes from the input.
-    fn feed_forward(&self, x: i32) -> i64
-        requires biquad { IsBiquad self.now }
-        requires term { IsTerm x }
-        ensures value { let s = self.now.stage in
-            result ≡ s.b0 *ℤ x +ℤ s.b1 *ℤ self.now.x1 +ℤ s.b2 *ℤ self.now.x2 }
-        ensures bound { unsigned_abs result ≤ 3 * 2 ^ 60 }
-    {
-        product(self.stage.b0, x)
-            + product(self.stage.b1, self.x1)
-            + product(self.stage.b2, self.x2)
-    }
-
-    /// The part of the sum that comes from the output, and is taken away.
-    fn feed_back(&self) -> i64
-        requires { IsBiquad self.now }
-        ensures value { let s = self.now.stage in
-            result ≡ s.a1 *ℤ self.now.y1 +ℤ s.a2 *ℤ self.now.y2 }
-        ensures bound { unsigned_abs result ≤ 2 * 2 ^ 60 }
-    {
-        product(self.stage.a1, self.y1) + product(self.stage.a2, self.y2)
-    }
-
-    /// The sum of the stage equation.
+    /// The sum of the stage equation, with the half.
     fn sum(&self, x: i32) -> i64
         requires biquad { IsBiquad self.now }
         requires term { IsTerm x }
-        ensures value { result ≡ weighted_of self.now x }
-        ensures bound { unsigned_abs result ≤ 5 * 2 ^ 60 }
+        ensures { result ≡ self.now.next +ℤ self.now.stage.b0 *ℤ x }
     {
-        self.feed_forward(x) - self.feed_back()
+        self.next + product(self.stage.b0, x)
     }
 
     /// The stage's answer to its next term.
+    fn answer(&self, x: i32) -> i32
+        requires biquad { IsBiquad self.now }
+        requires term { IsTerm x }
+        ensures value { result ≡ answer_of self.now x }
+        ensures term { IsTerm result }
+    {
+        clamp_term(divided(self.sum(x), self.stage.q))
+    }
+
+    /// Answers the next term, and holds what the two add to later sums.
     pub fn step(&mut self, x: i32) -> i32
         requires biquad { IsBiquad self.old }
         requires term { IsTerm x }
@@ -121,11 +119,9 @@ impl Biquad {
         ensures term { IsTerm result }
         ensures biquad { IsBiquad self.new }
     {
-        let y = clamp_term(divided(self.sum(x), self.stage.q, self.stage.round));
-        self.x2 = self.x1;
-        self.x1 = x;
-        self.y2 = self.y1;
-        self.y1 = y;
+        let y = self.answer(x);
+        self.next = self.later + added(self.stage.b1, x, self.stage.a1, y);
+        self.later = self.half + added(self.stage.b2, x, self.stage.a2, y);
         y
     }
 }

@@ -10,7 +10,7 @@ use arrayvec::ArrayVec;
 use plum_base::Cascade;
 use std::marker::Model;
 
-/// A cascade of recursive stages with what each still needs of its past: four numbers a stage.
+/// A cascade of recursive stages with what each still needs of its past.
 #[derive(Drop)]
 pub struct Filter {
     stages: ArrayVec<Biquad, 8>,
