@@ -51,7 +51,7 @@ biquad_at s x1 x2 y1 y2 =
       later = half +ℤ (s.b2 *ℤ x1 -ℤ s.a2 *ℤ y1);
     }
 
--- a stage that has answered ys to xs: its last terms are the two last of each, 0 where there is none
+-- a stage that has answered ys to xs: its last terms are the two last of each, or 0
 abbrev pub biquad_after : Stage → List ℤ → List ℤ → Biquad
 biquad_after s xs ys =
     biquad_at s (term (delayed xs) (length xs)) (term (delayed (delayed xs)) (length xs))

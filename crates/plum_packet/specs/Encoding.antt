@@ -8,6 +8,7 @@ use Rattle.plum_base.specs.declared.sites.StationSite.{StationSite}
 use Rattle.plum_base.specs.declared.wave.Sample.{Sample}
 use Rattle.plum_base.specs.declared.numbers.Key.{Key}
 use Rattle.plum_base.specs.declared.packet.Packet.{Packet}
+use Rattle.plum_base.specs.Sites.{HasCode}
 use Rattle.plum_packet.specs.Capture.{AreBytes}
 use Rattle.plum_packet.specs.Body.{IsPacket}
 
@@ -31,6 +32,11 @@ sample_bytes s = signed_bytes s.x ++ signed_bytes s.y ++ signed_bytes s.z
 abbrev pub body_of : ℕ → Packet → List ℕ
 body_of code packet =
     header_of code packet.key (length packet.wave) ++ flat_map sample_bytes packet.wave
+
+-- The bytes are this packet's, behind the code of its station.
+abbrev pub IsSpelled : List StationSite → Packet → List ℕ → Type 0
+IsSpelled stations packet bytes =
+    (code : ℕ) × HasCode stations packet.station.0 code × (bytes ≡ body_of code packet)
 
 -- Each component has 32 bits.
 pub record FitsSample (s : Sample) : Type 0 where

@@ -6,7 +6,7 @@ ghost use Rattle.plum_base.specs.Sites.{AreStations, HasCode};
 ghost use Rattle.plum_packet.specs.Body.{IsPacket};
 ghost use Rattle.plum_base.specs.Packet.{FitsKey};
 ghost use Rattle.plum_packet.specs.Encoding.{header_of, sample_bytes, FitsSample};
-ghost use Rattle.plum_packet.specs.Encoding.{IsOnlyBody, IsOnlyPacket};
+ghost use Rattle.plum_packet.specs.Encoding.{IsOnlyBody, IsOnlyPacket, IsSpelled};
 
 use crate::body::{HEADER, MOST_SAMPLES, SAMPLE};
 use byteorder::{BigEndian, ByteOrder};
@@ -69,6 +69,7 @@ pub fn encode(alloc: Global, packet: &Packet, sites: &Sites) -> Result<Bytes, No
     requires some { 0 < length packet.now.wave }
     requires few { length packet.now.wave ≤ MOST_SAMPLES }
     ensures body { IfOk result (λ bytes. IsPacket sites.now.stations bytes packet.now) }
+    ensures spelled { IfOk result (IsSpelled sites.now.stations packet.now) }
     ensures only { IfOk result (IsOnlyBody sites.now.stations packet.now) }
     ensures read { IfOk result (IsOnlyPacket sites.now.stations packet.now) }
 {

@@ -21,6 +21,14 @@ returns-clause-body c =
     (is_packet stations packet code c.station_code-code.ensures.code (omega arith) header.range
     c.requires.some c.requires.few ranges)
 
+pub returns-clause-spelled : goal.returns-clause-spelled
+returns-clause-spelled c =
+    let code = c.station_code-code.result in
+    let is = written c.args.packet.now code _ _ _ _ _ c.in_ok-bytes.ensures
+    c.as_slice-samples.ensures.value c.header_of-header.ensures.value
+    c.in_ok-extend.ensures.ok c.in_ok-put_samples.ensures.ok in
+    (code, c.station_code-code.ensures.code, is)
+
 pub returns-clause-only : goal.returns-clause-only
 returns-clause-only c =
     let stations = c.args.sites.now.stations in
