@@ -1,5 +1,6 @@
 -- A legal transcript goes on by one segment.
-use Rattle.std.proofs.Common.{◌≡◌, ℕ, zero, suc, ◌+◌, ◌-◌, ◌≤◌, ◌⊎◌, List, [], ◌∷◌, ◌++◌, length}
+use Rattle.std.proofs.Common.{◌≡◌, ℕ, zero, suc, ◌+◌, ◌-◌, ◌<◌, ◌≤◌, ◌⊎◌, List, [], ◌∷◌, ◌++◌}
+use Rattle.std.proofs.Common.{length}
 use Rattle.std.proofs.Common.{map, take, Some, inl, inr, refl, sym, ◌∙◌, ap, subst, arith}
 use Rattle.std.proofs.Common.{append-nil, append_assoc, length-append}
 use Rattle.std.proofs.lemmas.List.{append_cancel_left, map-append, flat_map_more, take-append-le}
@@ -17,11 +18,12 @@ use Rattle.plum_base.specs.Sites.{SitesView, areas_of, targets_of}
 use Rattle.plum_seq.specs.Keys.{kept_after, kept}
 use Rattle.plum_seq.specs.Laws.{KeptInParts}
 use Rattle.plum_core.specs.History.{packet_of, IsValidHistory, HoldsKept}
-use Rattle.plum_core.specs.Laws.{LegalAtStart}
+use Rattle.plum_core.specs.Laws.{LegalAtStart, OverIsFrom, PartAdds, OnePartEach}
 use Rattle.plum_core.specs.Transcript.{Transcript, entries_up_to, journal_of, IsReadingAt}
-use Rattle.plum_core.specs.Transcript.{kept_in_segments_after, kept_in_segments, of_lane}
-use Rattle.plum_core.specs.Transcript.{HoldsByLane, ArePredictions, IsReadingOver, AreReadingsOver}
-use Rattle.plum_core.specs.Transcript.{with_part, with_readings, IsLegal, IsLegalOver}
+use Rattle.plum_core.specs.Transcript.{kept_in_segments_after, kept_in_segments}
+use Rattle.plum_core.specs.Transcript.{HoldsByLane, ArePredictions, IsReadingOver, IsReadingFrom}
+use Rattle.plum_core.specs.Transcript.{AreReadingsFrom}
+use Rattle.plum_core.specs.Transcript.{with_part, with_readings, IsLegalOver}
 use Rattle.plum_core.proofs.Joining.{IsValidHistory-nil}
 use Rattle.plum_core.proofs.Lists.{slice_get-push, slice_get-take, beside}
 
@@ -102,9 +104,45 @@ nothing_legal setup sites = record {
 mark_within : (m : ℕ) (t : Transcript) → length (entries_up_to m t) ≤ length (journal_of t)
 mark_within m t = front_within m t.parts
 
+-- Readings over the whole journal are readings over fronts of it.
+pub over_is_from : OverIsFrom
+over_is_from sites t m readings = each (areas_of sites.targets) readings
+  where
+    each : (areas : List (List ℕ)) (rs : List Reading)
+        → AllZip (IsReadingOver sites (journal_of t)) areas rs
+        → AllZip (IsReadingFrom sites (length (entries_up_to m t)) (journal_of t)) areas rs
+    each [] [] all = tt
+    each [] (r ∷ rs) all = absurd all
+    each (area ∷ areas) [] all = absurd all
+    each (area ∷ areas) (r ∷ rs) all =
+        let front : r.front ≡ length (journal_of t) = all.0.front in
+        let whole : take r.front (journal_of t) ≡ journal_of t =
+        take_all r.front (journal_of t) (omega arith) in (
+          record {
+            least_is = omega (arith, mark_within m t);
+            within = omega arith;
+            answers = rw whole all.0.answers;
+          },
+          each areas rs all.1,
+        )
+
+-- A part more joins the journal.
+pub part_adds : PartAdds
+part_adds t part = (
+  sym (flat_map_more (λ (p : List Entry). p) [] t.parts part),
+  ap joined (take-append-le (length t.parts) t.parts (part ∷ []) (omega arith)
+      ∙ take_all (length t.parts) t.parts (omega arith)),
+)
+
+-- There is one part for each segment.
+pub one_part_each : OnePartEach
+one_part_each setup sites segments read t legal =
+    length-parts setup.lanes [] segments t.parts legal.complete
+
 module _ (setup : Setup) (sites : SitesView) where
-  module _ (segments : List (List Packet)) (t : Transcript) (segment : List Packet)
-      (part : List Entry) (legal : IsLegal setup sites segments t) where
+  module _ (segments : List (List Packet)) (read : ℕ) (t : Transcript) (segment : List Packet)
+      (part : List Entry) (few : read ≤ length segments)
+      (legal : IsLegalOver setup sites segments read t) where
     -- the transcript, one part more on
     abbrev longer : Transcript
     longer = with_part t part
@@ -123,15 +161,14 @@ module _ (setup : Setup) (sites : SitesView) where
     }
 
     -- Each part holds the kept packets of its segment.
-    complete_longer : map packet_of part ≡ kept_after (joined segments) segment
+    complete_longer : HoldsByLane setup.lanes part (kept_after (joined segments) segment)
         → AllZip (HoldsByLane setup.lanes) longer.parts
         (kept_in_segments (segments ++ segment ∷ []))
-    complete_longer kept_ones =
+    complete_longer holds =
         subst (AllZip (HoldsByLane setup.lanes) longer.parts)
         (sym (kept_in_segments-push [] segments segment))
         (all_zipped_more (HoldsByLane setup.lanes) t.parts (kept_in_segments segments) part
-        (kept_after (joined segments) segment) legal.complete
-        (λ lane. ap (of_lane setup.lanes lane) kept_ones))
+        (kept_after (joined segments) segment) legal.complete holds)
 
     module _ (m a : ℕ) (reading : Reading) (at : IsReadingAt t m a reading) where
       -- A mark that has readings has its part, so its front is as before, and the next one grows.
@@ -161,15 +198,12 @@ module _ (setup : Setup) (sites : SitesView) where
           rw same (legal.answers m a reading area at is)
 
     -- The part of one segment more joins.
-    pub part_joins : KeptInParts → HoldsKept (journal_of t) (joined segments)
-        → HoldsKept (journal_of t ++ part) (joined segments ++ segment)
+    pub part_joins : HoldsByLane setup.lanes part (kept_after (joined segments) segment)
         → IsValidHistory setup (length sites.stations) (journal_of t ++ part)
-        → IsLegalOver setup sites (segments ++ segment ∷ []) (length segments) longer
-    part_joins in_parts holds whole valid = record {
+        → IsLegalOver setup sites (segments ++ segment ∷ []) read longer
+    part_joins holds valid = record {
       valid = subst (IsValidHistory setup (length sites.stations)) journal_longer valid;
-      complete =
-          complete_longer
-          (kept_part in_parts (journal_of t) part (joined segments) segment holds whole);
+      complete = complete_longer holds;
       marks = legal.marks;
       areas = legal.areas;
       bounds = λ m a reading at. bounds_longer m a reading (was m a reading at);
@@ -178,102 +212,102 @@ module _ (setup : Setup) (sites : SitesView) where
       answers = λ m a reading area at. answers_longer m a reading (was m a reading at) area;
     }
 
-  module _ (segments : List (List Packet)) (t : Transcript) (segment : List Packet)
-      (readings : List Reading)
-      (legal : IsLegalOver setup sites (segments ++ segment ∷ []) (length segments) t)
-      (read : AreReadingsOver sites (journal_of t) readings) where
-    -- the transcript, with the readings at one mark more
-    abbrev read_on : Transcript
-    read_on = with_readings t readings
+  module _ (segments : List (List Packet)) (read : ℕ) (t : Transcript) (readings : List Reading)
+      (has_part : read < length segments) (last_but_one : length segments ≤ read + 2)
+      (legal : IsLegalOver setup sites segments read t)
+      (are : AreReadingsFrom sites (length (entries_up_to (read + 1) t)) (journal_of t) readings)
+    where
+      -- the transcript, with the readings at one mark more
+      abbrev read_on : Transcript
+      read_on = with_readings t readings
 
-    -- a reading at the new mark, which is the last
-    record IsNew (m a : ℕ) (reading : Reading) : Type 0 where
-      last : m ≡ length t.parts
-      area : List ℕ
-      name : slice_get (areas_of sites.targets) a ≡ Some area
-      over : IsReadingOver sites (journal_of t) area reading
+      -- what a reading at the new mark says
+      abbrev IsFrom : List ℕ → Reading → Type 0
+      IsFrom = IsReadingFrom sites (length (entries_up_to (read + 1) t)) (journal_of t)
 
-    -- Each reading is one of those before, or at the new mark.
-    old_or_new : (m a : ℕ) (reading : Reading) → IsReadingAt read_on m a reading
-        → IsReadingAt t m a reading ⊎ IsNew m a reading
-    old_or_new m a reading at =
-        elim (slice_get-push t.readings readings (m - 1) at.of_mark at.mark) [
-          | inl old ↦
-              inl (record {
-                from_one = at.from_one;
-                of_mark = at.of_mark;
-                mark = old;
-                area = at.area;
-              })
-          | inr last ↦
-              let here : slice_get readings a ≡ Some reading =
-              ap (λ rs. slice_get rs a) last.1 ∙ at.area in
-              let its_area = beside (IsReadingOver sites (journal_of t)) (areas_of sites.targets)
-              readings a reading read here in
-              let count = length-parts setup.lanes [] (segments ++ segment ∷ []) t.parts
-              legal.complete in
-              let from = at.from_one in
-              let place = last.0 in
-              inr (record {
-                last = omega (arith, legal.marks, length_push segments segment);
-                area = its_area.0;
-                name = its_area.1;
-                over = its_area.2;
-              })
-        ]
+      -- a reading at the new mark
+      record IsNew (m a : ℕ) (reading : Reading) : Type 0 where
+        last : m ≡ read + 1
+        area : List ℕ
+        name : slice_get (areas_of sites.targets) a ≡ Some area
+        from : IsFrom area reading
 
-    -- The front of the new ones is the whole journal.
-    bounds_read_on : (m a : ℕ) (reading : Reading) → IsReadingAt read_on m a reading
-        → (length (entries_up_to m t) ≤ reading.front)
-        × (reading.front ≤ length (entries_up_to (m + 1) t))
-    bounds_read_on m a reading at =
-        elim (old_or_new m a reading at) [
-          | inl old ↦ legal.bounds m a reading old
-          | inr new ↦
-              let front = new.over.front in
-              let last = new.last in
-              let whole : length (entries_up_to (m + 1) t) ≡ length (journal_of t) =
-              ap (λ parts. length (joined parts)) (take_all (m + 1) t.parts (omega arith)) in
-              (omega (arith, mark_within m t), omega arith)
-        ]
+      -- Each reading is one of those before, or at the new mark.
+      old_or_new : (m a : ℕ) (reading : Reading) → IsReadingAt read_on m a reading
+          → IsReadingAt t m a reading ⊎ IsNew m a reading
+      old_or_new m a reading at =
+          elim (slice_get-push t.readings readings (m - 1) at.of_mark at.mark) [
+            | inl old ↦
+                inl (record {
+                  from_one = at.from_one;
+                  of_mark = at.of_mark;
+                  mark = old;
+                  area = at.area;
+                })
+            | inr last ↦
+                let here : slice_get readings a ≡ Some reading =
+                ap (λ rs. slice_get rs a) last.1 ∙ at.area in
+                let its_area = beside IsFrom (areas_of sites.targets) readings a reading are here in
+                let from = at.from_one in
+                let position = last.0 in
+                inr (record {
+                  last = omega (arith, legal.marks);
+                  area = its_area.0;
+                  name = its_area.1;
+                  from = its_area.2;
+                })
+          ]
 
-    -- Their answers are over the whole journal.
-    answers_read_on : (m a : ℕ) (reading : Reading) (area : List ℕ)
-        → IsReadingAt read_on m a reading → slice_get (areas_of sites.targets) a ≡ Some area
-        → ArePredictions sites.stations (take reading.front (journal_of t))
-        (targets_of area sites.targets) reading.answers
-    answers_read_on m a reading area at is =
-        elim (old_or_new m a reading at) [
-          | inl old ↦ legal.answers m a reading area old is
-          | inr new ↦
-              let same : new.area ≡ area = same_Some _ _ (sym new.name ∙ is) in
-              let whole : take reading.front (journal_of t) ≡ journal_of t =
-              ap (λ n. take n (journal_of t)) new.over.front
-              ∙ take_all (length (journal_of t)) (journal_of t) (omega arith) in
-              rw whole
-              (subst (λ name. ArePredictions sites.stations (journal_of t)
-              (targets_of name sites.targets) reading.answers) same new.over.answers)
-        ]
+      -- The fronts of the new ones hold all up to their mark, and are within the journal, which ends
+      -- at the next mark.
+      bounds_read_on : (m a : ℕ) (reading : Reading) → IsReadingAt read_on m a reading
+          → (length (entries_up_to m t) ≤ reading.front)
+          × (reading.front ≤ length (entries_up_to (m + 1) t))
+      bounds_read_on m a reading at =
+          elim (old_or_new m a reading at) [
+            | inl old ↦ legal.bounds m a reading old
+            | inr new ↦
+                let last : m ≡ read + 1 = new.last in
+                let count = length-parts setup.lanes [] segments t.parts legal.complete in
+                let whole : length (entries_up_to (m + 1) t) ≡ length (journal_of t) =
+                ap (λ parts. length (joined parts)) (take_all (m + 1) t.parts (omega arith)) in (
+                  subst (λ m. length (entries_up_to m t) ≤ reading.front) (sym last)
+                      new.from.least_is,
+                  subst (λ n. reading.front ≤ n) (sym whole) new.from.within,
+                )
+          ]
 
-    -- The readings at one mark more join. A front is at most the journal at the next mark, which is
-    -- at most the next front.
-    pub readings_join : IsLegal setup sites (segments ++ segment ∷ []) read_on
-    readings_join = record {
-      valid = legal.valid;
-      complete = legal.complete;
-      marks =
-          length_push t.readings readings ∙ ap (λ n. n + 1) legal.marks
-          ∙ sym (length_push segments segment);
-      areas =
-          All-push (λ rs. length rs ≡ length (areas_of sites.targets)) t.readings readings
-          legal.areas (AllZip-long _ _ readings read);
-      bounds = bounds_read_on;
-      rising = λ m a earlier later at after.
-          let first = bounds_read_on m a earlier at in
-          let second = bounds_read_on (m + 1) a later after in
-          omega (arith, first.1, second.0);
-      answers = answers_read_on;
-    }
+      -- Their answers are over their fronts.
+      answers_read_on : (m a : ℕ) (reading : Reading) (area : List ℕ)
+          → IsReadingAt read_on m a reading → slice_get (areas_of sites.targets) a ≡ Some area
+          → ArePredictions sites.stations (take reading.front (journal_of t))
+          (targets_of area sites.targets) reading.answers
+      answers_read_on m a reading area at is =
+          elim (old_or_new m a reading at) [
+            | inl old ↦ legal.answers m a reading area old is
+            | inr new ↦
+                let same : new.area ≡ area = same_Some _ _ (sym new.name ∙ is) in
+                subst (λ name. ArePredictions sites.stations (take reading.front (journal_of t))
+                (targets_of name sites.targets) reading.answers) same new.from.answers
+          ]
+
+      -- The readings at one mark more join. A front is at most the journal at the next mark, which is
+      -- at most the next front.
+      pub readings_join : IsLegalOver setup sites segments (read + 1) read_on
+      readings_join = record {
+        valid = legal.valid;
+        complete = legal.complete;
+        marks = length_push t.readings readings ∙ ap (λ n. n + 1) legal.marks;
+        areas =
+            All-push (λ rs. length rs ≡ length (areas_of sites.targets)) t.readings readings
+            legal.areas (AllZip-long _ _ readings are);
+        bounds = bounds_read_on;
+        rising = λ m a earlier later at after.
+            let first = bounds_read_on m a earlier at in
+            let second = bounds_read_on (m + 1) a later after in
+            omega (arith, first.1, second.0);
+        answers = answers_read_on;
+      }
 
   module _ (segments : List (List Packet)) (read fewer : ℕ) (t : Transcript) (few : fewer ≤ read)
       (legal : IsLegalOver setup sites segments read t) where

@@ -60,7 +60,7 @@ module _ (lanes lane : ℕ) where
   first false e es = refl
 
   -- the packets of a lane's entries are the packets of the lane
-  packets_of_lane : (history : List Entry) → AreInLanes lanes history
+  pub packets_of_lane : (history : List Entry) → AreInLanes lanes history
       → map packet_of (entries_of_lane lane history) ≡ of_lane lanes lane (map packet_of history)
   packets_of_lane [] right = refl
   packets_of_lane (e ∷ es) right =

@@ -5,6 +5,8 @@ pub mod Joining
 pub mod Showing
 pub mod Lanes
 pub mod Legal
+pub mod ByLane
+pub mod Counted
 pub mod GoingOn
 pub mod Backlogs
 pub mod Changed

@@ -1,8 +1,8 @@
 -- The statements of the laws of histories and of the machine. A real setup has a lawful table; a
 -- ghost one may have any, so the laws that rest on it have that as a premise.
-use Rattle.std.specs.Prelude.{◌≡◌, ◌≢◌, ◌↔◌, ℕ, ◌<◌, ◌≤◌, List, [], ◌∷◌, ◌++◌, length, map, take}
-use Rattle.std.specs.Prelude.{slice_get, All, Some, None, IsSomeAnd}
-use Rattle.std.specs.List.{flat_map}
+use Rattle.std.specs.Prelude.{◌≡◌, ◌≢◌, ◌↔◌, ℕ, ◌+◌, ◌<◌, ◌≤◌, List, [], ◌∷◌, ◌++◌, length, map}
+use Rattle.std.specs.Prelude.{take, sum_by, slice_get, All, Some, None, IsSomeAnd}
+use Rattle.std.specs.List.{flat_map, range_with_len}
 use Rattle.plum_base.specs.declared.answers.Reading.{Reading}
 use Rattle.plum_base.specs.declared.entry.Entry.{Entry}
 use Rattle.plum_base.specs.declared.numbers.AreaNo.{AreaNo}
@@ -26,8 +26,9 @@ use Rattle.plum_core.specs.Machine.{State, start, step, state_after, waiting_aft
 use Rattle.plum_core.specs.Machine.{IsReadAt, NamesExist}
 use Rattle.plum_core.specs.Transcript.{Transcript, entries_up_to, journal_of}
 use Rattle.plum_base.specs.Sites.{targets_of}
-use Rattle.plum_core.specs.Transcript.{ArePredictions, IsLegal, IsLegalUpTo, IsLegalOver}
-use Rattle.plum_core.specs.Transcript.{AreReadingsOver, with_part, with_readings}
+use Rattle.plum_core.specs.Transcript.{of_lane, HoldsByLane, HoldsKeptByLane, ArePredictions}
+use Rattle.plum_core.specs.Transcript.{IsLegal, IsLegalUpTo, IsLegalOver, AreReadingsOver}
+use Rattle.plum_core.specs.Transcript.{AreReadingsFrom, with_part, with_readings}
 
 -- What a station shows in a valid history is its value there: the plain function of its
 -- packets since its last gap.
@@ -77,24 +78,84 @@ abbrev pub LegalAtStart : Type 0
 LegalAtStart = (setup : Setup) (sites : SitesView)
     → IsLegal setup sites [] (record { parts = []; readings = [] })
 
--- The entries of one segment more join a legal transcript: all kept ones of its packets, in file
--- order. The mark of that segment has no readings then.
-abbrev pub PartJoins : Type 0
-PartJoins = (setup : Setup) (sites : SitesView) (segments : List (List Packet)) (t : Transcript)
-    (segment : List Packet) (part : List Entry)
-    → IsLegal setup sites segments t
-    → HoldsKept (journal_of t) (flat_map (λ s. s) segments)
-    → HoldsKept (journal_of t ++ part) (flat_map (λ s. s) segments ++ segment)
-    → IsValidHistory setup (length sites.stations) (journal_of t ++ part)
-    → IsLegalOver setup sites (segments ++ segment ∷ []) (length segments) (with_part t part)
+-- The kept packets of a lane are the kept ones of its packets.
+abbrev pub KeptByLane : Type 0
+KeptByLane = (lanes lane : ℕ) (earlier packets : List Packet)
+    → of_lane lanes lane (kept_after earlier packets)
+    ≡ kept_after (of_lane lanes lane earlier) (of_lane lanes lane packets)
 
--- Then the readings at that mark join, each over the whole journal.
+-- In a valid history the entries of a lane are those of its packets.
+abbrev pub PacketsOfLane : Type 0
+PacketsOfLane = (setup : Setup) (stations lane : ℕ) (history : List Entry)
+    → IsValidHistory setup stations history
+    → map packet_of (entries_of_lane lane history)
+    ≡ of_lane setup.lanes lane (map packet_of history)
+
+-- What holds the kept packets in file order holds them lane by lane.
+abbrev pub KeptIsByLane : Type 0
+KeptIsByLane = (setup : Setup) (stations : ℕ) (history : List Entry) (packets : List Packet)
+    → IsValidHistory setup stations history → HoldsKept history packets
+    → HoldsKeptByLane setup.lanes history packets
+
+-- A valid history has as many entries as all lanes together.
+abbrev pub LanesCounted : Type 0
+LanesCounted = (setup : Setup) (stations : ℕ) (history : List Entry)
+    → IsValidHistory setup stations history
+    → length history
+    ≡ sum_by (λ lane. length (entries_of_lane lane history)) (range_with_len 0 setup.lanes)
+
+-- What joins a legal journal is the legal part of one segment more, where the new journal has of
+-- each lane the kept ones of its packets.
+abbrev pub PartOfLanes : Type 0
+PartOfLanes = (setup : Setup) (sites : SitesView) (segments : List (List Packet)) (read : ℕ)
+    (t : Transcript) (segment : List Packet) (part : List Entry)
+    → IsLegalOver setup sites segments read t
+    → IsValidHistory setup (length sites.stations) (journal_of t ++ part)
+    → HoldsKeptByLane setup.lanes (journal_of t ++ part) (flat_map (λ s. s) segments ++ segment)
+    → HoldsByLane setup.lanes part (kept_after (flat_map (λ s. s) segments) segment)
+
+-- It has as many entries as it has packets.
+abbrev pub PartIsCounted : Type 0
+PartIsCounted = (setup : Setup) (part : List Entry) (packets : List Packet)
+    → HoldsByLane setup.lanes part packets → length part ≡ length packets
+
+-- The entries of one segment more join a legal transcript: all kept ones of its packets, those of
+-- each lane in file order. Its marks have the readings that they had.
+abbrev pub PartJoins : Type 0
+PartJoins = (setup : Setup) (sites : SitesView) (segments : List (List Packet)) (read : ℕ)
+    (t : Transcript) (segment : List Packet) (part : List Entry)
+    → read ≤ length segments → IsLegalOver setup sites segments read t
+    → HoldsByLane setup.lanes part (kept_after (flat_map (λ s. s) segments) segment)
+    → IsValidHistory setup (length sites.stations) (journal_of t ++ part)
+    → IsLegalOver setup sites (segments ++ segment ∷ []) read (with_part t part)
+
+-- The readings at the next mark join, where at most one segment comes after it: each over a front
+-- that holds all entries up to that mark.
 abbrev pub ReadingsJoin : Type 0
-ReadingsJoin = (setup : Setup) (sites : SitesView) (segments : List (List Packet))
-    (t : Transcript) (segment : List Packet) (readings : List Reading)
-    → IsLegalOver setup sites (segments ++ segment ∷ []) (length segments) t
+ReadingsJoin = (setup : Setup) (sites : SitesView) (segments : List (List Packet)) (read : ℕ)
+    (t : Transcript) (readings : List Reading)
+    → read < length segments → length segments ≤ read + 2
+    → IsLegalOver setup sites segments read t
+    → AreReadingsFrom sites (length (entries_up_to (read + 1) t)) (journal_of t) readings
+    → IsLegalOver setup sites segments (read + 1) (with_readings t readings)
+
+-- Readings over the whole journal are such ones, at any mark.
+abbrev pub OverIsFrom : Type 0
+OverIsFrom = (sites : SitesView) (t : Transcript) (m : ℕ) (readings : List Reading)
     → AreReadingsOver sites (journal_of t) readings
-    → IsLegal setup sites (segments ++ segment ∷ []) (with_readings t readings)
+    → AreReadingsFrom sites (length (entries_up_to m t)) (journal_of t) readings
+
+-- A part more joins the journal; the entries up to the mark before it are the journal before.
+abbrev pub PartAdds : Type 0
+PartAdds = (t : Transcript) (part : List Entry)
+    → (journal_of (with_part t part) ≡ journal_of t ++ part)
+    × (entries_up_to (length t.parts) (with_part t part) ≡ journal_of t)
+
+-- There is one part for each segment.
+abbrev pub OnePartEach : Type 0
+OnePartEach = (setup : Setup) (sites : SitesView) (segments : List (List Packet)) (read : ℕ)
+    (t : Transcript) → IsLegalOver setup sites segments read t
+    → length t.parts ≡ length segments
 
 -- A transcript that is right with readings at so many marks is right with those of the first of
 -- them alone.

@@ -1,5 +1,6 @@
 -- Transcripts: what a replay said, and when that is right.
-use Rattle.std.specs.Prelude.{◌≡◌, ℕ, ◌+◌, ◌-◌, ◌≤◌, ◌==◌, if◌then◌else◌, List, [], ◌∷◌, ◌++◌}
+use Rattle.std.specs.Prelude.{◌≡◌, ℕ, ◌+◌, ◌-◌, ◌<◌, ◌≤◌, ◌==◌, if◌then◌else◌, List, []}
+use Rattle.std.specs.Prelude.{◌∷◌, ◌++◌}
 use Rattle.std.specs.Prelude.{length, map, filter, take, slice_get, All, Option, Some}
 use Rattle.std.specs.List.{flat_map, AllZip}
 use Rattle.plum_base.specs.declared.answers.Reading.{Reading}
@@ -13,7 +14,7 @@ use Rattle.plum_base.specs.Sites.{SitesView, areas_of, targets_of}
 use Rattle.plum_base.specs.Lane.{lane_of}
 use Rattle.plum_seq.specs.Keys.{kept_after}
 use Rattle.plum_geo.specs.Prediction.{IsPredictionOver}
-use Rattle.plum_core.specs.History.{packet_of, IsValidHistory}
+use Rattle.plum_core.specs.History.{packet_of, entries_of_lane, IsValidHistory, HoldsKept}
 
 -- the journal, cut into the parts of the segments, and for each mark a reading for each area
 pub record Transcript : Type 0 where
@@ -55,6 +56,12 @@ abbrev pub HoldsByLane : ℕ → List Entry → List Packet → Type 0
 HoldsByLane lanes part packets =
     (lane : ℕ) → of_lane lanes lane (map packet_of part) ≡ of_lane lanes lane packets
 
+-- The history has of each lane, where there are so many, exactly the kept ones of its packets, each
+-- once, in file order.
+abbrev pub HoldsKeptByLane : ℕ → List Entry → List Packet → Type 0
+HoldsKeptByLane lanes history packets = (lane : ℕ) → lane < lanes
+    → HoldsKept (entries_of_lane lane history) (of_lane lanes lane packets)
+
 -- The answers are the predictions at these targets, one for one.
 abbrev pub ArePredictions : List StationSite → List Entry → List TargetSite → List (Option Tenths)
     → Type 0
@@ -73,6 +80,20 @@ pub record IsReadingOver (sites : SitesView) (history : List Entry) (area : List
 abbrev pub AreReadingsOver : SitesView → List Entry → List Reading → Type 0
 AreReadingsOver sites history readings =
     AllZip (IsReadingOver sites history) (areas_of sites.targets) readings
+
+-- The reading of an area over a front of a history that holds so many entries at least: the
+-- predictions at the area's targets.
+pub record IsReadingFrom (sites : SitesView) (least : ℕ) (history : List Entry) (area : List ℕ)
+    (reading : Reading) : Type 0 where
+  pub least_is : least ≤ reading.front
+  pub within : reading.front ≤ length history
+  pub answers : ArePredictions sites.stations (take reading.front history)
+      (targets_of area sites.targets) reading.answers
+
+-- one for each area
+abbrev pub AreReadingsFrom : SitesView → ℕ → List Entry → List Reading → Type 0
+AreReadingsFrom sites least history readings =
+    AllZip (IsReadingFrom sites least history) (areas_of sites.targets) readings
 
 -- one part more
 abbrev pub with_part : Transcript → List Entry → Transcript

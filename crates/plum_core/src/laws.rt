@@ -2,8 +2,10 @@
 
 ghost use Rattle.plum_core.specs.Laws.{ShowsItsValue, FrontIsValid, FrontOfLane};
 ghost use Rattle.plum_core.specs.Laws.{LegalToTheEnd, LegalByStation, LegalShows, TakingKeeps};
-ghost use Rattle.plum_core.specs.Laws.{PartIsKept, LegalAtStart, PartJoins, ReadingsJoin};
-ghost use Rattle.plum_core.specs.Laws.{FewerReadings};
+ghost use Rattle.plum_core.specs.Laws.{PartIsKept, LegalAtStart, PartOfLanes, PartIsCounted};
+ghost use Rattle.plum_core.specs.Laws.{PartJoins, ReadingsJoin, OverIsFrom, PartAdds};
+ghost use Rattle.plum_core.specs.Laws.{OnePartEach, FewerReadings};
+ghost use Rattle.plum_core.specs.Laws.{KeptByLane, PacketsOfLane, KeptIsByLane, LanesCounted};
 ghost use Rattle.plum_core.specs.Laws.{NextEntryJoins, WaitingEntryJoins, OrderJoins, OrderStays};
 ghost use Rattle.plum_core.specs.Laws.{SendingKeeps, FactsAtStart, StepKeepsFacts, EventsKeepFacts};
 ghost use Rattle.plum_core.specs.Laws.{FrontIsGathered, AnswersArePredictions, FrontIsPublished};
@@ -29,6 +31,17 @@ pub fn histories()
     kept_packets();
 }
 
+/// What the lanes of a history hold.
+pub fn histories_by_lane()
+    ensures kept { KeptByLane }
+    ensures packets { PacketsOfLane }
+    ensures whole { KeptIsByLane }
+    ensures counted { LanesCounted }
+{
+    // For the contract: what is known of keys.
+    kept_packets();
+}
+
 /// What a legal transcript says of each station, how it goes on by one segment, and when a
 /// transcript is legal up to the end.
 pub fn legal_transcripts()
@@ -36,8 +49,13 @@ pub fn legal_transcripts()
     ensures by_station { LegalByStation }
     ensures shows { LegalShows }
     ensures start { LegalAtStart }
+    ensures of_lanes { PartOfLanes }
+    ensures counted { PartIsCounted }
     ensures part { PartJoins }
     ensures readings { ReadingsJoin }
+    ensures over { OverIsFrom }
+    ensures adds { PartAdds }
+    ensures each { OnePartEach }
     ensures fewer { FewerReadings }
 {
     // For the contract: what is known of keys.

@@ -17,7 +17,7 @@ mod station;
 pub use area::read_area;
 pub use event::{Event, Reply};
 pub use laws::{
-    giving_keeps_backlog, histories, legal_transcripts, machine_keeps_facts,
+    giving_keeps_backlog, histories, histories_by_lane, legal_transcripts, machine_keeps_facts,
     machine_replies_in_one_way, readings_are_predictions, sending_keeps_validity,
     station_shows_its_value, taking_keeps_backlog, valid_histories_hold_each_once,
 };

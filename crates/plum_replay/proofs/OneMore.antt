@@ -17,11 +17,12 @@ use Rattle.plum_packet.specs.Counts.{counts_in}
 use Rattle.plum_packet.specs.Laws.{CountsGoOn}
 use Rattle.plum_packet.specs.Segments.{Decoded, packets_in, refused_in}
 use Rattle.plum_packet.proofs.Taking.{all_decoded}
-use Rattle.plum_core.specs.History.{HoldsKept, IsValidHistory, packet_of}
-use Rattle.plum_core.specs.Laws.{PartIsKept, PartJoins, ReadingsJoin}
+use Rattle.plum_core.specs.History.{IsValidHistory, packet_of}
+use Rattle.plum_core.specs.Laws.{PartIsKept, PartJoins, ReadingsJoin, OverIsFrom}
 use Rattle.plum_core.specs.Station.{HasTaken, size_of}
 use Rattle.plum_core.specs.Transcript.{Transcript, IsLegal, IsLegalOver, AreReadingsOver}
-use Rattle.plum_core.specs.Transcript.{journal_of, with_part, with_readings}
+use Rattle.plum_core.specs.Transcript.{journal_of, of_lane, HoldsByLane, with_part}
+use Rattle.plum_core.specs.Transcript.{with_readings}
 use Rattle.plum_board.specs.Board.{StandsFor}
 use Rattle.plum_alert.specs.Desk.{StandsFor as DeskStandsFor}
 use Rattle.plum_text.specs.Texts.{Section, note_of, journal_text}
@@ -80,6 +81,7 @@ pub record Laws : Type 0 where
   pub part_is_kept : PartIsKept
   pub part_joins : PartJoins
   pub readings_join : ReadingsJoin
+  pub over_is_from : OverIsFrom
   pub counts_go_on : CountsGoOn
 
 module _ (laws : Laws) (setup : Setup) (sites : SitesView) (segments : List (List Decoded))
@@ -162,18 +164,16 @@ module _ (laws : Laws) (setup : Setup) (sites : SitesView) (segments : List (Lis
     with_entries : IsLegalOver setup sites (map packets_in all) (length segments)
         (with_part t part)
     with_entries =
-        let flat = flat_packets segments in
-        let holds = subst (HoldsKept (journal_of t)) (sym flat) was.network.holds in
-        let whole = subst (λ ps. HoldsKept (journal_of t ++ part) (ps ++ packets_in decoded))
-        (sym flat) steps.taken.holds in
+        let holds = subst (λ ps. HoldsByLane setup.lanes part (kept_after ps (packets_in decoded)))
+        (sym (flat_packets segments)) (λ lane. ap (of_lane setup.lanes lane) kept_of_part) in
         let valid = subst (λ n. IsValidHistory setup n (journal_of t ++ part)) steps.size
         steps.taken.valid in
         subst (λ n. IsLegalOver setup sites (map packets_in all) n (with_part t part))
         (length-map segments packets_in)
         (subst (λ ps. IsLegalOver setup sites ps (length (map packets_in segments))
         (with_part t part)) (sym mapped)
-        (laws.part_joins setup sites (map packets_in segments) t (packets_in decoded) part
-        was.legal holds whole valid))
+        (laws.part_joins setup sites (map packets_in segments) (length (map packets_in segments)) t
+        (packets_in decoded) part (omega arith) was.legal holds valid))
 
     abbrev after_part : Transcript
     after_part = with_part t part
@@ -187,12 +187,13 @@ module _ (laws : Laws) (setup : Setup) (sites : SitesView) (segments : List (Lis
     legal : IsLegal setup sites (map packets_in all) after_mark
     legal =
         let over = subst (λ h. AreReadingsOver sites h readings) (sym journal_is) steps.read in
-        let parts = subst (λ n. IsLegalOver setup sites (map packets_in all) n after_part)
-        (sym (length-map segments packets_in)) with_entries in
-        subst (λ ps. IsLegal setup sites ps after_mark) (sym mapped)
-        (laws.readings_join setup sites (map packets_in segments) after_part (packets_in decoded)
-        readings (subst (λ ps. IsLegalOver setup sites ps (length (map packets_in segments))
-        after_part) mapped parts) over)
+        let read = length segments in
+        let one_more : length (map packets_in all) ≡ read + 1 =
+        length-map all packets_in ∙ length_push segments decoded in
+        subst (λ n. IsLegalOver setup sites (map packets_in all) n after_mark) (sym one_more)
+        (laws.readings_join setup sites (map packets_in all) read after_part readings
+        (omega arith) (omega arith) with_entries
+        (laws.over_is_from sites after_part (read + 1) readings over))
 
     desks_are : AreDesks after.desks.items setup.rules
         (λ a. of_area a (t.readings ++ readings ∷ []))

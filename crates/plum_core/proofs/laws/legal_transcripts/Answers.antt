@@ -8,7 +8,10 @@ use Rattle.plum_base.specs.declared.entry.Entry.{Entry}
 use Rattle.plum_core.specs.History.{IsValidHistory}
 use Rattle.plum_core.specs.Transcript.{journal_of, IsLegalOver}
 use Rattle.plum_core.proofs.Joining.{IsValidHistory-front}
+use Rattle.plum_core.proofs.ByLane.{part_of_lanes}
+use Rattle.plum_core.proofs.Counted.{part_counted}
 use Rattle.plum_core.proofs.GoingOn.{nothing_legal, part_joins, readings_join, less_is_legal}
+use Rattle.plum_core.proofs.GoingOn.{over_is_from, part_adds, one_part_each}
 use Rattle.plum_core.proofs.Legal.{packets_of-parts}
 use Rattle.plum_core.proofs.Showing.{shows_its_value}
 use Rattle.plum_core.proofs.laws.legal_transcripts.Goals as goal
@@ -47,8 +50,25 @@ pub returns-clause-start : goal.returns-clause-start
 returns-clause-start c = nothing_legal
 
 pub returns-clause-part : goal.returns-clause-part
-returns-clause-part c = λ setup sites segments t segment part legal.
-    part_joins setup sites segments t segment part legal c.kept_packets.ensures.parts
+returns-clause-part c = part_joins
+
+pub returns-clause-of_lanes : goal.returns-clause-of_lanes
+returns-clause-of_lanes c = λ setup sites segments read t segment part legal.
+    let law = c.kept_packets.ensures in
+    part_of_lanes law.joins law.leaves law.parts setup (length sites.stations) segments t.parts
+    segment part legal.complete
+
+pub returns-clause-counted : goal.returns-clause-counted
+returns-clause-counted c = part_counted
+
+pub returns-clause-over : goal.returns-clause-over
+returns-clause-over c = over_is_from
+
+pub returns-clause-adds : goal.returns-clause-adds
+returns-clause-adds c = part_adds
+
+pub returns-clause-each : goal.returns-clause-each
+returns-clause-each c = one_part_each
 
 pub returns-clause-readings : goal.returns-clause-readings
 returns-clause-readings c = readings_join

@@ -18,6 +18,7 @@ returns-clause-replays c = λ setup segments t sections decoded was holds.
       part_is_kept = c.histories.ensures.part;
       part_joins = c.legal_transcripts.ensures.part;
       readings_join = c.legal_transcripts.ensures.readings;
+      over_is_from = c.legal_transcripts.ensures.over;
       counts_go_on = c.bodies_are_counted.ensures.goes_on;
     } in
     let takes = c.in_ok-take_packets.ensures.takes in
