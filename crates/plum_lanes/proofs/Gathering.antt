@@ -9,24 +9,24 @@ use Rattle.plum_base.specs.declared.entry.Entry.{Entry}
 use Rattle.plum_core.specs.Facts.{IsQueueBounded}
 use Rattle.plum_core.specs.History.{entries_of_lane}
 use Rattle.plum_core.specs.Laws.{FrontIsValid}
-use Rattle.plum_lanes.specs.declared.rule.Terms.{Terms}
+use Rattle.plum_lanes.specs.declared.rule.Basis.{Basis}
 use Rattle.plum_lanes.specs.declared.rule.View.{View}
 use Rattle.plum_lanes.specs.Rule.{IsValid, gatherer, IsRuled, Holds, Gathers, IsGatheredThen}
 use Rattle.plum_lanes.proofs.Views.{Fits, off, all_set, ruled_of, Some-injective}
 
-module _ (n : ℕ) (k : Terms) (v : View) (may : v.gathers ≡ true) (known : v.terms ≡ Some k) where
-  -- what is said of the terms that the pass knows
-  for_known : (P : Terms → Type 0) (terms : Terms) → P terms
-      → (other : Terms) → Some terms ≡ Some other → P other
-  for_known P terms p other is = subst P (Some-injective is) p
+module _ (n : ℕ) (k : Basis) (v : View) (may : v.gathers ≡ true) (known : v.basis ≡ Some k) where
+  -- what is said of the basis that the pass knows
+  for_known : (P : Basis → Type 0) (basis : Basis) → P basis
+      → (other : Basis) → Some basis ≡ Some other → P other
+  for_known P basis p other is = subst P (Some-injective is) p
 
   module _ (fronts : FrontIsValid) (e : Entry) (queue : List Entry) (views : List View)
       (r : IsRuled (e ∷ queue) views) (at : get_elem? views n ≡ some v) where
     -- the gatherer, one entry on
     abbrev after : View
-    after = gatherer v.terms (v.gathered ++ e ∷ []) v.out v.noted
+    after = gatherer v.basis (v.gathered ++ e ∷ []) v.out v.settled
 
-    abbrev mine : (n ≡ r.reader) × (v ≡ gatherer (Some r.terms) r.gathered r.out r.noted)
+    abbrev mine : (n ≡ r.gatherer_pass) × (v ≡ gatherer (Some r.basis) r.gathered r.out r.settled)
     mine = (r.each n v at).0 may
 
     abbrev gathered : List Entry
@@ -36,22 +36,22 @@ module _ (n : ℕ) (k : Terms) (v : View) (may : v.gathers ≡ true) (known : v.
     joined : r.gathered ++ e ∷ queue ≡ gathered ++ queue
     joined = sym (append_assoc r.gathered (e ∷ []) queue)
 
-    valid : IsValid r.terms (gathered ++ queue)
-    valid = subst (IsValid r.terms) joined r.history_valid
+    valid : IsValid r.basis (gathered ++ queue)
+    valid = subst (IsValid r.basis) joined r.history_valid
 
-    bounded : IsQueueBounded r.terms.setup.queue queue
+    bounded : IsQueueBounded r.basis.setup.queue queue
     bounded =
-        let before : suc (length queue) ≤ r.terms.setup.queue = r.queue_bounded in
+        let before : suc (length queue) ≤ r.basis.setup.queue = r.queue_bounded in
         omega arith
 
     each : (j : ℕ) (u : View) → get_elem? (set views n after) j ≡ some u
-        → Fits r.terms r.reader r.out gathered r.noted r.seat (gathered ++ queue) j u
+        → Fits r.basis r.gatherer_pass r.out gathered r.settled r.lane_pass (gathered ++ queue) j u
     each =
-        all_set (Fits r.terms r.reader r.out gathered r.noted r.seat (gathered ++ queue)) views n
+        all_set (Fits r.basis r.gatherer_pass r.out gathered r.settled r.lane_pass (gathered ++ queue)) views n
         after (
           (λ _. (
             mine.0,
-            ap (λ (u : View). gatherer u.terms (u.gathered ++ e ∷ []) u.out u.noted) mine.1,
+            ap (λ (u : View). gatherer u.basis (u.gathered ++ e ∷ []) u.out u.settled) mine.1,
           )),
           (λ p. absurd (off p)),
         )
@@ -65,18 +65,18 @@ module _ (n : ℕ) (k : Terms) (v : View) (may : v.gathers ≡ true) (known : v.
 
     stays_ruled : IsRuled queue (set views n after)
     stays_ruled = record {
-      terms = r.terms;
-      reader = r.reader;
+      basis = r.basis;
+      gatherer_pass = r.gatherer_pass;
       out = r.out;
       gathered = gathered;
-      noted = r.noted;
-      seat = r.seat;
+      settled = r.settled;
+      lane_pass = r.lane_pass;
       history_valid = valid;
       queue_bounded = bounded;
       front = λ lane.
           let before = r.front lane in
           (before.0, ap (entries_of_lane lane) (sym joined) ∙ before.1);
-      home = λ lane le. r.home lane le ∙ ap (entries_of_lane lane) joined;
+      returned = λ lane le. r.returned lane le ∙ ap (entries_of_lane lane) joined;
       each = each;
     }
 
@@ -85,10 +85,10 @@ module _ (n : ℕ) (k : Terms) (v : View) (may : v.gathers ≡ true) (known : v.
     gathers_valid = record {
       view = refl;
       valid =
-          subst (λ (u : View). (terms : Terms) → u.terms ≡ Some terms
-          → IsValid terms (u.gathered ++ e ∷ [])) (sym mine.1)
-          (for_known (λ t. IsValid t gathered) r.terms
-          (fronts r.terms.setup r.terms.stations gathered queue valid));
+          subst (λ (u : View). (basis : Basis) → u.basis ≡ Some basis
+          → IsValid basis (u.gathered ++ e ∷ [])) (sym mine.1)
+          (for_known (λ t. IsValid t gathered) r.basis
+          (fronts r.basis.setup r.basis.stations gathered queue valid));
     }
 
   -- The first entry of the queue is gathered.
@@ -107,8 +107,8 @@ module _ (n : ℕ) (k : Terms) (v : View) (may : v.gathers ≡ true) (known : v.
       let mine = (r.each n v at).0 may in
       subst (λ (u : View). IsGatheredThen u queue) (sym mine.1)
       (record {
-        valid = for_known (λ t. IsValid t (r.gathered ++ queue)) r.terms r.history_valid;
-        bounded = for_known (λ t. IsQueueBounded t.setup.queue queue) r.terms r.queue_bounded;
+        valid = for_known (λ t. IsValid t (r.gathered ++ queue)) r.basis r.history_valid;
+        bounded = for_known (λ t. IsQueueBounded t.setup.queue queue) r.basis r.queue_bounded;
         front = r.front;
-        home = r.home;
+        returned = r.returned;
       })

@@ -8,3 +8,5 @@ pub mod Gathered
 pub mod Opened
 pub mod Closed
 pub mod Sent
+pub mod Kept
+pub mod Frames

@@ -1,4 +1,4 @@
--- The first step: the queue is empty, and its terms are named.
+-- The first step: the queue is empty, and its basis is named.
 use Rattle.std.proofs.Common.{◌≡◌, ℕ, zero, suc, List, [], ◌∷◌, ◌++◌, set, Some, None, sym}
 use Rattle.std.proofs.Common.{refl, ap}
 use Rattle.std.proofs.Common.{◌∙◌, subst, inl, inr, arith}
@@ -8,7 +8,7 @@ use Rattle.crossbeam_queue.specs.Fifo.{Forks}
 use Rattle.plum_base.specs.declared.entry.Entry.{Entry}
 use Rattle.plum_base.specs.declared.setup.Setup.{Setup}
 use Rattle.plum_core.specs.History.{IsValidHistory}
-use Rattle.plum_lanes.specs.declared.rule.Terms.{Terms}
+use Rattle.plum_lanes.specs.declared.rule.Basis.{Basis}
 use Rattle.plum_lanes.specs.declared.rule.View.{View}
 use Rattle.plum_lanes.specs.Rule.{gatherer, spent, blank, IsRuled, Holds}
 use Rattle.plum_lanes.proofs.Views.{Fits, spent-fits, off}
@@ -16,12 +16,13 @@ use Rattle.plum_lanes.proofs.Views.{Fits, spent-fits, off}
 pub begins : Holds [] (blank ∷ [])
 begins = inl (refl, refl)
 
-no_entry : (setup : Setup) (stations : ℕ) → IsValidHistory setup stations []
+-- No entry is a valid history.
+pub no_entry : (setup : Setup) (stations : ℕ) → IsValidHistory setup stations []
 no_entry setup stations [] e later is = cc
 no_entry setup stations (f ∷ fs) e later is = cc
 
-module _ (k : Terms) where
-  -- the gatherer, which knows the terms
+module _ (k : Basis) where
+  -- the gatherer, which knows the basis
   abbrev named : View
   named = gatherer (Some k) [] 0 []
 
@@ -37,16 +38,16 @@ module _ (k : Terms) where
 
   first_ruled : IsRuled [] (named ∷ spent ∷ [])
   first_ruled = record {
-    terms = k;
-    reader = 0;
+    basis = k;
+    gatherer_pass = 0;
     out = 0;
     gathered = [];
-    noted = [];
-    seat = λ _. 0;
+    settled = [];
+    lane_pass = λ _. 0;
     history_valid = no_entry k.setup k.stations;
     queue_bounded = omega arith;
     front = λ lane. ([], refl);
-    home = λ lane le. refl;
+    returned = λ lane le. refl;
     each = each_fits;
   }
 
@@ -54,7 +55,7 @@ module _ (k : Terms) where
   first_at zero v e = refl
   first_at (suc m) v e = absurd (some-ne-none v (sym e))
 
-  -- The first pass is told the terms, and a spare one is made.
+  -- The first pass is told the basis, and a spare one is made.
   pub names : (n : ℕ) (v : View) → v ≡ blank → Forks Holds n v named spent
   names n v is items views h at = elim h [
     | inl fresh ↦
@@ -65,5 +66,5 @@ module _ (k : Terms) where
         first_ruled)
     | inr r ↦
         let mine = (r.each n v at).0 (ap (λ (u : View). u.gathers) is) in
-        let bad : None ≡ Some r.terms = ap (λ (u : View). u.terms) (sym is ∙ mine.1) in cc
+        let bad : None ≡ Some r.basis = ap (λ (u : View). u.basis) (sym is ∙ mine.1) in cc
   ]

@@ -9,9 +9,9 @@ use Rattle.plum_base.specs.declared.entry.Entry.{Entry}
 use Rattle.plum_core.specs.Facts.{IsInLaneOrder, IsQueueBounded}
 use Rattle.plum_core.specs.History.{entries_of_lane}
 use Rattle.plum_core.specs.Laws.{NextEntryJoins, OrderJoins, OrderStays, FrontOfLane}
-use Rattle.plum_lanes.specs.declared.rule.Terms.{Terms}
+use Rattle.plum_lanes.specs.declared.rule.Basis.{Basis}
 use Rattle.plum_lanes.specs.declared.rule.View.{View}
-use Rattle.plum_lanes.specs.Rule.{IsValid, IsNext, StartsWith, noted_at, sender, IsRuled, Holds}
+use Rattle.plum_lanes.specs.Rule.{IsValid, IsNext, StartsWith, settled_at, sender, IsRuled, Holds}
 use Rattle.plum_lanes.specs.Rule.{IsSentThen}
 use Rattle.plum_lanes.proofs.Views.{Fits, off, all_set, ruled_for, Some-injective}
 
@@ -19,10 +19,10 @@ use Rattle.plum_lanes.proofs.Views.{Fits, off, all_set, ruled_for, Some-injectiv
 module _ (joins : NextEntryJoins) (orders : OrderJoins) (others : OrderStays)
     (appends : FrontOfLane) (cap n : ℕ) (v : View) (e : Entry) (may : v.sends ≡ true)
     (own : e.lane.0 ≡ v.lane)
-    (next : (k : Terms) → v.terms ≡ Some k → (cap ≡ k.setup.queue) × IsNext k v.sent e) where
+    (next : (k : Basis) → v.basis ≡ Some k → (cap ≡ k.setup.queue) × IsNext k v.sent e) where
   -- the lane, one entry on
   abbrev after : View
-  after = sender v.terms v.lane (v.sent ++ e ∷ [])
+  after = sender v.basis v.lane (v.sent ++ e ∷ [])
 
   module _ (queue : List Entry) (views : List View) (room : length queue < cap)
       (r : IsRuled queue views) (at : get_elem? views n ≡ some v) where
@@ -37,12 +37,12 @@ module _ (joins : NextEntryJoins) (orders : OrderJoins) (others : OrderStays)
     joined = append_assoc r.gathered queue (e ∷ [])
 
     -- what the rule says of the lane
-    abbrev mine : (v.lane < r.out) × (n ≡ r.seat v.lane) × (v.terms ≡ Some r.terms)
+    abbrev mine : (v.lane < r.out) × (n ≡ r.lane_pass v.lane) × (v.basis ≡ Some r.basis)
         × IsInLaneOrder v.lane v.sent all
     mine = (r.each n v at).1 may
 
-    abbrev right : (cap ≡ r.terms.setup.queue) × IsNext r.terms v.sent e
-    right = next r.terms mine.2
+    abbrev right : (cap ≡ r.basis.setup.queue) × IsNext r.basis v.sent e
+    right = next r.basis mine.2
 
     -- each other lane has what it had
     other_lane : (lane : ℕ) → e.lane.0 ≢ lane
@@ -50,30 +50,30 @@ module _ (joins : NextEntryJoins) (orders : OrderJoins) (others : OrderStays)
     other_lane lane apart =
         others lane e (entries_of_lane lane all) all apart refl ∙ ap (entries_of_lane lane) joined
 
-    bounded : IsQueueBounded r.terms.setup.queue (queue ++ e ∷ [])
+    bounded : IsQueueBounded r.basis.setup.queue (queue ++ e ∷ [])
     bounded =
-        let bound : cap ≡ r.terms.setup.queue = right.0 in
+        let bound : cap ≡ r.basis.setup.queue = right.0 in
         omega (arith, length-append queue (e ∷ []))
 
-    front : (lane : ℕ) → StartsWith (entries_of_lane lane more) (noted_at r.noted lane)
+    front : (lane : ℕ) → StartsWith (entries_of_lane lane more) (settled_at r.settled lane)
     front lane =
         let before = r.front lane in
         let new = entries_of_lane lane (e ∷ []) in (
           before.0 ++ new,
           ap (entries_of_lane lane) (sym joined) ∙ appends lane all (e ∷ [])
-              ∙ ap (λ es. es ++ new) before.1 ∙ append_assoc (noted_at r.noted lane) before.0 new,
+              ∙ ap (λ es. es ++ new) before.1 ∙ append_assoc (settled_at r.settled lane) before.0 new,
         )
 
-    home : (lane : ℕ) → r.out ≤ lane → noted_at r.noted lane ≡ entries_of_lane lane more
-    home lane le =
+    returned : (lane : ℕ) → r.out ≤ lane → settled_at r.settled lane ≡ entries_of_lane lane more
+    returned lane le =
         let below : v.lane < r.out = mine.0 in
         let apart : e.lane.0 ≢ lane = λ q. omega arith in
-        r.home lane le ∙ other_lane lane apart
+        r.returned lane le ∙ other_lane lane apart
 
     each : (j : ℕ) (u : View) → get_elem? (set views n after) j ≡ some u
-        → Fits r.terms r.reader r.out r.gathered r.noted r.seat more j u
+        → Fits r.basis r.gatherer_pass r.out r.gathered r.settled r.lane_pass more j u
     each =
-        all_set (Fits r.terms r.reader r.out r.gathered r.noted r.seat more) views n after (
+        all_set (Fits r.basis r.gatherer_pass r.out r.gathered r.settled r.lane_pass more) views n after (
           (λ p. absurd (off p)),
           (λ _. (
             mine.0,
@@ -89,25 +89,25 @@ module _ (joins : NextEntryJoins) (orders : OrderJoins) (others : OrderStays)
           λ p.
               let t = was.1 p in
               let other : e.lane.0 ≢ u.lane = λ q.
-              apart (t.1 ∙ ap r.seat (sym q ∙ own) ∙ sym mine.1) in
+              apart (t.1 ∙ ap r.lane_pass (sym q ∙ own) ∙ sym mine.1) in
               (t.0, t.1, t.2, t.3 ∙ other_lane u.lane other),
         ))
 
     stays_ruled : IsRuled (queue ++ e ∷ []) (set views n after)
     stays_ruled = record {
-      terms = r.terms;
-      reader = r.reader;
+      basis = r.basis;
+      gatherer_pass = r.gatherer_pass;
       out = r.out;
       gathered = r.gathered;
-      noted = r.noted;
-      seat = r.seat;
+      settled = r.settled;
+      lane_pass = r.lane_pass;
       history_valid =
-          subst (IsValid r.terms) joined
-          (joins r.terms.setup r.terms.stations v.lane e v.sent all r.history_valid mine.3 own
+          subst (IsValid r.basis) joined
+          (joins r.basis.setup r.basis.stations v.lane e v.sent all r.history_valid mine.3 own
           right.1);
       queue_bounded = bounded;
       front = front;
-      home = home;
+      returned = returned;
       each = each;
     }
 
@@ -124,7 +124,7 @@ full n v may queue views h at =
     record {
       gathered = r.gathered;
       in_order = mine.3;
-      valid = λ terms is.
-          let same : r.terms ≡ terms = Some-injective (sym mine.2 ∙ is) in
-          subst (λ (t : Terms). IsValid t (r.gathered ++ queue)) same r.history_valid;
+      valid = λ basis is.
+          let same : r.basis ≡ basis = Some-injective (sym mine.2 ∙ is) in
+          subst (λ (t : Basis). IsValid t (r.gathered ++ queue)) same r.history_valid;
     }

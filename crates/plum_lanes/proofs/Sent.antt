@@ -6,17 +6,18 @@ use Rattle.crossbeam_queue.specs.Passes.{view, ruled_capacity}
 use Rattle.plum_core.specs.Facts.{IsInLaneOrder}
 use Rattle.plum_lanes.specs.declared.lanes.Lane.{Lane}
 use Rattle.plum_lanes.specs.Rule.{IsSentThen}
-use Rattle.plum_lanes.specs.Lanes.{Queue, IsLane, WasFull, sent}
+use Rattle.plum_lanes.specs.Opening.{Opening}
+use Rattle.plum_lanes.specs.Lanes.{IsLane, WasFull, sent}
 
-pub was_full : (queue : Queue) (number : ℕ) (lane : Lane) → IsLane queue number lane
-    → (n : ℕ) → n ≡ ruled_capacity (arc_value lane.line)
-    → Held n (IsSentThen (view lane.pass)) → WasFull queue number lane
-was_full queue number lane is n n_is held = record {
+pub was_full : (opening : Opening) (number : ℕ) (lane : Lane) → IsLane opening number lane
+    → (n : ℕ) → n ≡ ruled_capacity (arc_value lane.ring)
+    → Held n (IsSentThen (view lane.pass)) → WasFull opening number lane
+was_full opening number lane is n n_is held = record {
   gathered_then = held.2.gathered;
   queued_then = held.0;
   full = held.1 ∙ n_is ∙ is.belongs.capacity;
   in_order =
       subst (λ n. IsInLaneOrder n (sent lane) (held.2.gathered ++ held.0)) is.sends_as
       held.2.in_order;
-  valid = held.2.valid queue.terms is.terms_are;
+  valid = held.2.valid opening.basis is.basis_is;
 }

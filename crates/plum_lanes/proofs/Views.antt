@@ -8,9 +8,9 @@ use mathlib.Core.Option.{some, some-injective, some-ne-none}
 use lib.ListN.{get_elem?}
 use Rattle.crossbeam_queue.proofs.Lists.{at_set}
 use Rattle.plum_base.specs.declared.entry.Entry.{Entry}
-use Rattle.plum_lanes.specs.declared.rule.Terms.{Terms}
+use Rattle.plum_lanes.specs.declared.rule.Basis.{Basis}
 use Rattle.plum_lanes.specs.declared.rule.View.{View}
-use Rattle.plum_lanes.specs.Rule.{noted_at, note, blank, spent, FitsGatherer, FitsSender, IsRuled}
+use Rattle.plum_lanes.specs.Rule.{settled_at, settle, blank, spent, FitsGatherer, FitsSender, IsRuled}
 use Rattle.plum_lanes.specs.Rule.{Holds}
 
 -- ---- lists
@@ -27,41 +27,41 @@ at_end (x ∷ xs) a b zero e = inl e
 at_end (x ∷ xs) a b (suc j) e =
     ⊎_elim (λ h. inl h) (λ t. inr (ap suc t.0, t.1)) (at_end xs a b j e)
 
--- ---- what is noted
+-- ---- what is settled
 
-pub noted-same : (xs : List (List Entry)) (n : ℕ) (s : List Entry) → noted_at (note xs n s) n ≡ s
-noted-same [] zero s = refl
-noted-same [] (suc n) s = noted-same [] n s
-noted-same (x ∷ xs) zero s = refl
-noted-same (x ∷ xs) (suc n) s = noted-same xs n s
+pub settled-same : (xs : List (List Entry)) (n : ℕ) (s : List Entry) → settled_at (settle xs n s) n ≡ s
+settled-same [] zero s = refl
+settled-same [] (suc n) s = settled-same [] n s
+settled-same (x ∷ xs) zero s = refl
+settled-same (x ∷ xs) (suc n) s = settled-same xs n s
 
-pub noted-other : (xs : List (List Entry)) (n m : ℕ) (s : List Entry) → m ≢ n
-    → noted_at (note xs n s) m ≡ noted_at xs m
-noted-other [] zero zero s apart = absurd (apart refl)
-noted-other [] zero (suc m) s apart = refl
-noted-other [] (suc n) zero s apart = refl
-noted-other [] (suc n) (suc m) s apart = noted-other [] n m s (λ e. apart (ap suc e))
-noted-other (x ∷ xs) zero zero s apart = absurd (apart refl)
-noted-other (x ∷ xs) zero (suc m) s apart = refl
-noted-other (x ∷ xs) (suc n) zero s apart = refl
-noted-other (x ∷ xs) (suc n) (suc m) s apart = noted-other xs n m s (λ e. apart (ap suc e))
+pub settled-other : (xs : List (List Entry)) (n m : ℕ) (s : List Entry) → m ≢ n
+    → settled_at (settle xs n s) m ≡ settled_at xs m
+settled-other [] zero zero s apart = absurd (apart refl)
+settled-other [] zero (suc m) s apart = refl
+settled-other [] (suc n) zero s apart = refl
+settled-other [] (suc n) (suc m) s apart = settled-other [] n m s (λ e. apart (ap suc e))
+settled-other (x ∷ xs) zero zero s apart = absurd (apart refl)
+settled-other (x ∷ xs) zero (suc m) s apart = refl
+settled-other (x ∷ xs) (suc n) zero s apart = refl
+settled-other (x ∷ xs) (suc n) (suc m) s apart = settled-other xs n m s (λ e. apart (ap suc e))
 
 -- ---- what fits
 
 -- the pass of this number fits the rule: as the gatherer, and as a lane
-abbrev pub Fits : Terms → ℕ → ℕ → List Entry → List (List Entry) → (ℕ → ℕ) → List Entry → ℕ → View
+abbrev pub Fits : Basis → ℕ → ℕ → List Entry → List (List Entry) → (ℕ → ℕ) → List Entry → ℕ → View
     → Type 0
-Fits terms reader out gathered noted seat all pass v =
-    FitsGatherer terms reader gathered out noted pass v × FitsSender terms out seat all pass v
+Fits basis gatherer_pass out gathered settled lane_pass all pass v =
+    FitsGatherer basis gatherer_pass gathered out settled pass v × FitsSender basis out lane_pass all pass v
 
 pub off : false ≡ true → ⊥
 off e = true≢false (sym e)
 
 -- A pass that knows nothing fits.
-pub spent-fits : (terms : Terms) (reader out : ℕ) (gathered : List Entry)
-    (noted : List (List Entry)) (seat : ℕ → ℕ) (all : List Entry) (pass : ℕ)
-    → Fits terms reader out gathered noted seat all pass spent
-spent-fits terms reader out gathered noted seat all pass =
+pub spent-fits : (basis : Basis) (gatherer_pass out : ℕ) (gathered : List Entry)
+    (settled : List (List Entry)) (lane_pass : ℕ → ℕ) (all : List Entry) (pass : ℕ)
+    → Fits basis gatherer_pass out gathered settled lane_pass all pass spent
+spent-fits basis gatherer_pass out gathered settled lane_pass all pass =
     ((λ may. absurd (off may)), (λ may. absurd (off may)))
 
 -- What holds of each pass, after one of them changed.
@@ -75,12 +75,12 @@ all_set F views n w mine others j u e =
 
 -- ---- after the opening
 
--- the terms that a pass knows
-pub known_terms : (o : Option Terms) → IsSome o → (k : Terms) × (o ≡ Some k)
-known_terms None is = absurd (true≢false (sym is))
-known_terms (Some k) is = (k, refl)
+-- the basis that a pass knows
+pub known_basis : (o : Option Basis) → IsSome o → (k : Basis) × (o ≡ Some k)
+known_basis None is = absurd (true≢false (sym is))
+known_basis (Some k) is = (k, refl)
 
-pub Some-injective : {k l : Terms} → Some k ≡ Some l → k ≡ l
+pub Some-injective : {k l : Basis} → Some k ≡ Some l → k ≡ l
 Some-injective is = cc
 
 -- the view of a pass, where there is the first one alone
@@ -88,13 +88,13 @@ first_view : (views : List View) (n : ℕ) (v : View) → views ≡ blank ∷ []
     → get_elem? views n ≡ some v → blank ≡ v
 first_view views n v is at = only blank v n (ap (λ l. get_elem? l n) (sym is) ∙ at)
 
--- Where a pass knows the terms, the queue is ruled;
-pub ruled_of : (queue : List Entry) (views : List View) (n : ℕ) (k : Terms) (v : View)
-    → v.terms ≡ Some k → get_elem? views n ≡ some v → Holds queue views → IsRuled queue views
+-- Where a pass knows the basis, the queue is ruled;
+pub ruled_of : (queue : List Entry) (views : List View) (n : ℕ) (k : Basis) (v : View)
+    → v.basis ≡ Some k → get_elem? views n ≡ some v → Holds queue views → IsRuled queue views
 ruled_of queue views n k v known at h = elim h [
   | inl fresh ↦
       let same = first_view views n v fresh.1 at in
-      let bad : None ≡ Some k = ap (λ (u : View). u.terms) same ∙ known in cc
+      let bad : None ≡ Some k = ap (λ (u : View). u.basis) same ∙ known in cc
   | inr r ↦ r
 ]
 

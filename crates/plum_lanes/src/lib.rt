@@ -10,6 +10,7 @@
 mod closing;
 mod gatherer;
 mod lanes;
+mod laws;
 mod opening;
 mod rule;
 mod steps;
@@ -17,4 +18,5 @@ mod steps;
 pub use closing::close_round;
 pub use gatherer::Gather;
 pub use lanes::Lane;
+pub use laws::gathered_are_kept;
 pub use opening::open;

@@ -1,9 +1,12 @@
-//! The opening of a queue with its lanes and its gatherer.
+//! The opening of lanes with their gatherer.
 
-ghost use Rattle.std.specs.Prelude.{◌≡◌, ℕ, ◌+◌, ◌<◌, ◌≤◌, [], length, All, IfOk};
+ghost use Rattle.std.specs.Prelude.{◌≡◌, ℕ, ◌+◌, ◌/◌, ◌<◌, ◌≤◌, ◌↔◌, [], length, All, IfOk};
+ghost use Rattle.plum_base.specs.Lane.{lane_of};
 ghost use Rattle.plum_core.specs.Station.{Stands};
-ghost use Rattle.plum_lanes.specs.Lanes.{Queue, IsLane, HasTaken, IsIdle, AreNew};
-ghost use Rattle.plum_lanes.specs.Lanes.{IsNewGather, terms_of, places_of};
+ghost use Rattle.plum_lanes.specs.Opening.{Opening, basis_of};
+ghost use Rattle.plum_lanes.specs.Lanes.{IsLane, StandForTaken};
+ghost use Rattle.plum_lanes.specs.Rounds.{AreNew};
+ghost use Rattle.plum_lanes.specs.Passing.{IsIdle, IsNewGather};
 
 use crate::gatherer::Gather;
 use crate::lanes::Lane;
@@ -26,11 +29,11 @@ fn stations(alloc: Global, setup: &Setup, count: usize) -> Result<Vec<Station>, 
     Ok(stations)
 }
 
-/// How many of so many stations a lane has.
-fn places(stations: usize, lanes: u16, number: LaneNo) -> usize
+/// How many of so many stations a lane has. Station s of the lane stands at position s / lanes.
+fn share(stations: usize, lanes: u16, number: LaneNo) -> usize
     requires lanes { number.0 < lanes }
     requires stations { stations ≤ 4096 }
-    ensures { result ≡ places_of lanes stations number.0 }
+    ensures { (s : ℕ) → lane_of lanes s ≡ number.0 → s < stations ↔ s / lanes < result }
 {
     (stations + lanes as usize - 1 - number.0 as usize) / lanes as usize
 }
@@ -44,23 +47,22 @@ fn next_lane(
     number: LaneNo,
 ) -> Result<Lane, NoMemory>
     requires number { number.0 < setup.now.lanes }
-    requires gather { (queue : Queue) × (queue.terms ≡ terms_of setup.now sites.now)
-        × IsNewGather queue number.0 gather.old }
-    ensures gather { (queue : Queue) → IsNewGather queue number.0 gather.old
-        → IfOk result (λ lane. IsNewGather queue (number.0 + 1) gather.new) }
-    ensures lane { (queue : Queue) → queue.terms ≡ terms_of setup.now sites.now
-        → IsNewGather queue number.0 gather.old
-        → IfOk result (IsLane queue number.0) }
-    ensures taken { (queue : Queue) → queue.terms ≡ terms_of setup.now sites.now
-        → IsNewGather queue number.0 gather.old → IfOk result (HasTaken queue number.0 []) }
+    requires gather { (opening : Opening) × (opening.basis ≡ basis_of setup.now sites.now)
+        × IsNewGather opening number.0 gather.old }
+    ensures gather { (opening : Opening) → IsNewGather opening number.0 gather.old
+        → IfOk result (λ lane. IsNewGather opening (number.0 + 1) gather.new) }
+    ensures lane { (opening : Opening) → opening.basis ≡ basis_of setup.now sites.now
+        → IsNewGather opening number.0 gather.old → IfOk result (IsLane opening number.0) }
+    ensures stand { IfOk result (λ lane. StandForTaken (basis_of setup.now sites.now) number.0 []
+        lane.stations.items) }
     ensures idle { IfOk result IsIdle }
 {
-    let count = places(sites.stations().len(), setup.lanes, number);
+    let count = share(sites.stations().len(), setup.lanes, number);
     let stations = stations(alloc, setup, count)?;
-    let line = Arc::try_clone(&gather.line)?;
-    let pass = split(&line, &mut gather.pass);
+    let ring = Arc::try_clone(&gather.ring)?;
+    let pass = split(&ring, &mut gather.pass);
     Ok(Lane {
-        line,
+        ring,
         pass,
         number,
         lanes: setup.lanes,
@@ -71,16 +73,16 @@ fn next_lane(
     })
 }
 
-/// The lanes of a new queue, in the order of their numbers, and their gatherer. The lanes take all
-/// their memory here.
+/// The lanes of a setup and of its stations, in the order of their numbers, and their gatherer. The
+/// lanes take all their memory here.
 pub fn open(alloc: Global, sites: &Sites, setup: &Setup) -> Result<(Vec<Lane>, Gather), NoMemory>
-    ensures { IfOk result (λ opened. (queue : Queue)
-        × (queue.terms ≡ terms_of setup.now sites.now)
-        × AreNew queue opened.0.items opened.1) }
+    ensures { IfOk result (λ opened. (opening : Opening)
+        × (opening.basis ≡ basis_of setup.now sites.now)
+        × AreNew opening opened.0.items opened.1) }
 {
-    let (line, pass) = make(alloc, sites, setup)?;
+    let (ring, pass) = make(alloc, sites, setup)?;
     let mut gather = Gather {
-        line: Arc::new(alloc, line)?,
+        ring: Arc::new(alloc, ring)?,
         pass,
     };
     let mut lanes = Vec::new(alloc);

@@ -6,26 +6,26 @@ use plum_base::{Entry, Setup};
 use std::collections::LinkedList;
 use std::marker::{Brand, PhantomData};
 
-/// What a queue is opened for: the setup, and how many stations there are. No value of it is made.
-pub struct Terms {
+/// What lanes are opened for: the setup, and how many stations there are. No value of it is made.
+pub struct Basis {
     pub setup: Setup,
     pub stations: usize,
 }
 
 /// What a pass knows. No value of it is made.
 pub struct View {
-    /// None until they are named.
-    pub terms: Option<Terms>,
+    /// None until it is named.
+    pub basis: Option<Basis>,
     pub gathers: bool,
     pub sends: bool,
     /// Of a lane: its number, and what it sent.
     pub lane: u16,
     pub sent: LinkedList<Entry>,
-    /// Of the gatherer: what it gathered, how many lanes have their passes, and what each lane sent
-    /// when its pass came back last.
+    /// Of the gatherer: what it gathered, how many lanes have their passes, and what each lane had
+    /// sent when its pass came back last.
     pub gathered: LinkedList<Entry>,
     pub out: u16,
-    pub noted: LinkedList<LinkedList<Entry>>,
+    pub settled: LinkedList<LinkedList<Entry>>,
 }
 
 /// What was gathered and what is queued are one valid history.
@@ -39,21 +39,21 @@ impl Protocol<Entry, View> for OneHistory {
     ghost first = { blank };
 }
 
-/// The terms, for the proofs alone. A call at `Brand` picks them.
+/// The basis, for the proofs alone. A call at `Brand` picks it.
 pub trait Named {
     ghost use Rattle.std.specs.Prelude.{Option};
-    ghost use Rattle.plum_lanes.specs.declared.rule.Terms.{Terms};
+    ghost use Rattle.plum_lanes.specs.declared.rule.Basis.{Basis};
 
-    ghost terms: { Option Terms };
+    ghost basis: { Option Basis };
 }
 
 impl Named for Brand {
     ghost use Rattle.std.specs.Prelude.{None};
 
-    ghost terms = { None };
+    ghost basis = { None };
 }
 
-/// The gatherer is told the terms.
+/// The gatherer is told the basis.
 pub struct Names<N> {
     of: PhantomData<N>,
 }
@@ -62,7 +62,7 @@ impl<N: Named> Split<View> for Names<N> {
     ghost use Rattle.std.specs.Prelude.{[]};
     ghost use Rattle.plum_lanes.specs.Rule.{gatherer, spent};
 
-    ghost left = { λ v. gatherer N.terms [] 0 [] };
+    ghost left = { λ v. gatherer N.basis [] 0 [] };
 
     ghost right = { λ v. spent };
 }
@@ -72,19 +72,19 @@ pub struct Leaves;
 
 impl Split<View> for Leaves {
     ghost use Rattle.std.specs.Prelude.{◌+◌};
-    ghost use Rattle.plum_lanes.specs.Rule.{gatherer, sender, noted_at};
+    ghost use Rattle.plum_lanes.specs.Rule.{gatherer, sender, settled_at};
 
-    ghost left = { λ v. gatherer v.terms v.gathered (v.out + 1) v.noted };
+    ghost left = { λ v. gatherer v.basis v.gathered (v.out + 1) v.settled };
 
-    ghost right = { λ v. sender v.terms v.out (noted_at v.noted v.out) };
+    ghost right = { λ v. sender v.basis v.out (settled_at v.settled v.out) };
 }
 
 impl Join<View> for Leaves {
     ghost use Rattle.std.specs.Prelude.{◌-◌};
     ghost use Rattle.plum_lanes.specs.Rule as rule;
 
-    ghost both = { λ v w. rule.gatherer v.terms v.gathered (v.out - 1)
-        (rule.note v.noted (v.out - 1) w.sent) };
+    ghost both = { λ v w. rule.gatherer v.basis v.gathered (v.out - 1)
+        (rule.settle v.settled (v.out - 1) w.sent) };
 
     ghost spent = { rule.spent };
 }
@@ -107,7 +107,7 @@ impl Outcome<Entry, View> for Sends {
     ghost use Rattle.std.specs.Prelude.{◌≡◌, [], ◌∷◌, ◌++◌};
     ghost use Rattle.plum_lanes.specs.Rule.{sender};
 
-    ghost then = { λ v e w. w ≡ sender v.terms v.lane (v.sent ++ e ∷ []) };
+    ghost then = { λ v e w. w ≡ sender v.basis v.lane (v.sent ++ e ∷ []) };
 }
 
 impl Lesson<Entry, View> for Sends {
@@ -131,7 +131,7 @@ impl Lesson<Entry, View> for Gets {
     ghost fact = { IsGatheredThen };
 }
 
-/// The queue under the rule, and a pass of it.
-pub type Line = RuledArrayQueue<Entry, View, OneHistory>;
+/// The ring that holds the queue, under the rule, and a pass of it.
+pub type Ring = RuledArrayQueue<Entry, View, OneHistory>;
 
 pub type Ticket = Pass<Entry, View>;

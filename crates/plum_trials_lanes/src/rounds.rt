@@ -1,7 +1,8 @@
 //! Rounds: each lane sends its packets while the gatherer takes, on real threads or by turns.
 
 ghost use Rattle.std.specs.Prelude.{◌^◌, ◌<◌, ◌≤◌, length};
-ghost use Rattle.plum_lanes.specs.Lanes.{Queue, IsGather};
+ghost use Rattle.plum_lanes.specs.Gathering.{IsGather};
+ghost use Rattle.plum_lanes.specs.Opening.{Opening};
 ghost use Rattle.plum_trials_lanes.specs.AtWork.{IsOpen, IsSomeLane, StaysAtWork, StaysGather};
 ghost use Rattle.plum_trials_lanes.specs.AtWork.{AreSomeLanes, StayAtWork};
 
@@ -33,7 +34,7 @@ impl Seen {
     }
 
     /// The next entry.
-    pub fn note(&mut self, entry: &Entry) {
+    pub fn add(&mut self, entry: &Entry) {
         let station = entry.station.0 as usize;
         if station < 8 && self.next[station] == entry.key.number {
             self.next[station] = entry.key.number.wrapping_add(1);
@@ -113,13 +114,13 @@ fn work<R: Wait>(rt: &R, alloc: Global, lane: &mut Lane, number: u16, load: Load
 
 /// Takes entries until so many lanes have ended and nothing is left.
 fn feed<R: Wait>(rt: &R, gather: &mut Gather, seen: &mut Seen, ended: &AtomicU64, lanes: u64)
-    requires { (queue : Queue) × IsGather queue gather.old }
+    requires { (opening : Opening) × IsGather opening gather.old }
     ensures { StaysGather gather.old gather.new }
 {
     for _ in rt.forever() {
         let all = ended.load(Ordering::SeqCst) >= lanes;
         match gather.next(rt) {
-            Some(entry) => seen.note(&entry),
+            Some(entry) => seen.add(&entry),
             None if all => return,
             None => thread::yield_now(),
         }
@@ -169,7 +170,7 @@ fn side_by_side<R: Threads + Wait + Sync>(
     requires some { 1 ≤ load.lanes }
     requires few { length lanes.old ≤ 16 }
     requires lanes { AreSomeLanes load.stations load.lanes lanes.old }
-    requires gather { (queue : Queue) × IsGather queue gather.old }
+    requires gather { (opening : Opening) × IsGather opening gather.old }
     ensures lanes { StayAtWork load.stations load.lanes lanes.old lanes.new }
     ensures gather { StaysGather gather.old gather.new }
 {
@@ -178,7 +179,7 @@ fn side_by_side<R: Threads + Wait + Sync>(
     join_mut(
         rt,
         &mut ||
-            requires { (queue : Queue) × IsGather queue gather.now }
+            requires { (opening : Opening) × IsGather opening gather.now }
             ensures { StaysGather gather.entry.now gather.exit.now }
         { feed(rt, gather, seen, &ended, total) },
         &mut ||

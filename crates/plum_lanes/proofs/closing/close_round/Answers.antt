@@ -1,99 +1,133 @@
-use Rattle.std.proofs.Common.{◌++◌, ◌<◌, length, sym, ap, ◌∙◌, subst}
+use Rattle.std.proofs.Common.{◌≡◌, ℕ, ◌+◌, ◌++◌, ◌<◌, length, length-append, slice_index_or, sym}
+use Rattle.std.proofs.Common.{ap, ◌∙◌, subst, arith}
+use Rattle.std.specs.Prelude.{sum_by}
+use Rattle.std.specs.List.{range_with_len}
 use Rattle.crossbeam_queue.specs.Passes.{view}
 use Rattle.plum_core.specs.History.{entries_of_lane}
-use Rattle.plum_lanes.specs.Rule.{IsValid, noted_at}
-use Rattle.plum_lanes.specs.Lanes.{notes_of}
-use Rattle.plum_lanes.proofs.Closed.{homes_of, IsSameGather-then, IsSameBut-then, IsAsBefore-same}
-use Rattle.plum_lanes.proofs.Closed.{noted_is, all_gathered}
+use Rattle.plum_lanes.specs.declared.lanes.Lane.{Lane}
+use Rattle.plum_lanes.specs.Rule.{IsValid, settled_at}
+use Rattle.plum_lanes.specs.Lanes.{sent}
+use Rattle.plum_lanes.specs.Gathering.{gathered, settled_of}
+use Rattle.plum_lanes.proofs.Closed.{all_belong, IsSameGather-then, IsSameBut-then, IsAsBefore-same}
+use Rattle.plum_lanes.proofs.Closed.{HasTaken-same, settled_is, all_gathered, sum_at}
 use Rattle.plum_lanes.proofs.closing.close_round.Goals as goal
 
 pub look-requires : goal.look-requires
-look-requires c =
-    (c.requires.0, c.shut_all.ensures.gather.gather_of c.requires.0 c.requires.2.gather_of)
+look-requires c = (
+  c.requires.0,
+  c.recall_all.ensures.gather.gather_of c.requires.0 c.requires.1.gather_is.gather_of,
+)
 
-pub reopen_all-requires : goal.reopen_all-requires
-reopen_all-requires c =
-    let shut = c.shut_all.ensures in
+pub reissue_all-requires : goal.reissue_all-requires
+reissue_all-requires c =
+    let recall = c.recall_all.ensures in
     let look = c.look.ensures in (
       c.requires.0,
-      homes_of c.requires.0 c.args.lanes.now c.shut_all.new.lanes shut.count shut.lanes
-          c.requires.1,
-      (IsSameGather-then _ _ _ shut.gather look.gather).gather_of c.requires.0
-          c.requires.2.gather_of,
-      look.out ∙ shut.out,
+      (IsSameGather-then _ _ _ recall.gather look.gather).gather_of c.requires.0
+          c.requires.1.gather_is.gather_of,
+      look.out ∙ recall.out,
     )
 
-pub returns-clause-gather : goal.returns-clause-gather
-returns-clause-gather c = λ queue lanes gather.
-    let shut = c.shut_all.ensures in
-    let again = c.reopen_all.ensures in
-    let same = IsSameGather-then _ _ _ shut.gather
-    (IsSameGather-then _ _ _ c.look.ensures.gather again.gather) in
+pub returns-clause-whole : goal.returns-clause-whole
+returns-clause-whole c = λ opening whole.
+    let recall = c.recall_all.ensures in
+    let again = c.reissue_all.ensures in
+    let is = whole.gather_is in
+    let back = IsSameGather-then _ _ _ recall.gather c.look.ensures.gather in
+    let same = IsSameGather-then _ _ _ back again.gather in
+    let belong = all_belong opening c.args.lanes.now c.recall_all.new.lanes recall.count
+    recall.lanes whole.lanes_are in
     record {
-      gather_of = same.gather_of queue gather.gather_of;
-      out = again.out ∙ shut.count ∙ lanes.all;
-    }
-
-pub returns-clause-lanes : goal.returns-clause-lanes
-returns-clause-lanes c = λ queue lanes gather.
-    let shut = c.shut_all.ensures in
-    let again = c.reopen_all.ensures in
-    let homes = homes_of queue c.args.lanes.now c.shut_all.new.lanes shut.count shut.lanes lanes in
-    let home = (IsSameGather-then _ _ _ shut.gather c.look.ensures.gather).gather_of queue
-    gather.gather_of in
-    record {
-      all = again.count ∙ shut.count ∙ lanes.all;
-      each = λ i d less.
-          again.lanes queue homes home i d (subst (λ n. i < n) again.count less);
+      lanes_are = record {
+        all = again.count ∙ recall.count ∙ whole.lanes_are.all;
+        each = λ i d less.
+            again.lanes opening belong (back.gather_of opening is.gather_of) i d
+            (subst (λ n. i < n) again.count less);
+      };
+      gather_is = record {
+        gather_of = same.gather_of opening is.gather_of;
+        out = again.out ∙ recall.count ∙ whole.lanes_are.all;
+        valid = subst (IsValid opening.basis) (sym same.gathered) is.valid;
+      };
     }
 
 pub returns-clause-same : goal.returns-clause-same
 returns-clause-same c =
-    let shut = c.shut_all.ensures in
-    let again = c.reopen_all.ensures in
+    let recall = c.recall_all.ensures in
+    let again = c.reissue_all.ensures in
     record {
-      long = again.count ∙ shut.count;
+      long = again.count ∙ recall.count;
       each = λ i d less.
-          let less' : i < length c.shut_all.new.lanes = subst (λ n. i < n) (sym shut.count) less in
-          IsAsBefore-same _ _ (IsSameBut-then _ _ _ (shut.lanes i d less) (again.same i d less'))
-          (again.sent i d less' ∙ ap (λ ns. noted_at ns i) c.look.ensures.noted
-          ∙ shut.noted i d less);
+          let less' : i < length c.recall_all.new.lanes =
+          subst (λ n. i < n) (sym recall.count) less in
+          IsAsBefore-same _ _
+          (IsSameBut-then _ _ _ (recall.lanes i d less) (again.same i d less'))
+          (again.sent i d less' ∙ ap (λ lists. settled_at lists i) c.look.ensures.settled
+          ∙ recall.settled i d less);
     }
 
+pub returns-clause-taken : goal.returns-clause-taken
+returns-clause-taken c = λ opening whole i d taken less has.
+    let recall = c.recall_all.ensures in
+    let again = c.reissue_all.ensures in
+    let less' = subst (λ n. i < n) (sym recall.count) less in
+    let less'' = subst (λ n. i < n) (sym again.count) less' in
+    HasTaken-same opening i taken _ _
+    (IsSameBut-then _ _ _ (recall.lanes i d less) (again.same i d less'))
+    ((returns-clause-same c).each i d less).sent_is
+    ((returns-clause-whole c opening whole).lanes_are.each i d less'') has
+
 pub returns-clause-closed : goal.returns-clause-closed
-returns-clause-closed c = λ queue lanes gather.
-    let shut = c.shut_all.ensures in
+returns-clause-closed c = λ opening whole.
+    let recall = c.recall_all.ensures in
     let look = c.look.ensures in
-    let again = c.reopen_all.ensures in
-    let v = view c.shut_all.new.gather.pass in
-    let terms_are = (shut.gather.gather_of queue gather.gather_of).terms_are in
-    let all = again.gather.gathered ∙ look.gather.gathered in
+    let again = c.reissue_all.ensures in
+    let v = view c.recall_all.new.gather.pass in
+    let queued = look.fact.0 in
+    let fact = look.fact.1 in
+    let basis_is = (recall.gather.gather_of opening whole.gather_is.gather_of).basis_is in
+    let all : gathered c.reissue_all.new.gather ≡ v.gathered =
+    again.gather.gathered ∙ look.gather.gathered in
+    let now = gathered c.reissue_all.new.gather in
+    let valid = subst (λ es. IsValid opening.basis (es ++ queued)) (sym all)
+    (fact.valid opening.basis basis_is) in
+    let each : (i : ℕ) (d : Lane) → i < length c.reissue_all.new.lanes
+    → sent (slice_index_or c.reissue_all.new.lanes i d)
+    ≡ entries_of_lane i now ++ entries_of_lane i queued = λ i d less.
+    settled_is c.histories.ensures.lane v queued fact recall.out i _ _
+    (settled_of c.look.new.gather) (again.sent i d (subst (λ n. i < n) again.count less))
+    look.settled all in
     record {
-      queued = look.fact.0;
-      bounded = look.fact.1.bounded queue.terms terms_are;
-      valid =
-          subst (λ es. IsValid queue.terms (es ++ look.fact.0)) (sym all)
-          (look.fact.1.valid queue.terms terms_are);
-      each = λ i d less.
-          noted_is c.histories.ensures.lane v look.fact.0 look.fact.1 shut.out i _ _
-          (notes_of c.look.new.gather) (again.sent i d (subst (λ n. i < n) again.count less))
-          look.noted all;
+      queued = queued;
+      bounded = fact.bounded opening.basis basis_is;
+      valid = valid;
+      each = each;
+      counted =
+          sym (length-append now queued)
+          ∙ c.histories_by_lane.ensures.counted opening.basis.setup opening.basis.stations
+          (now ++ queued) valid
+          ∙ ap (λ n. sum_by (λ lane. length (entries_of_lane lane (now ++ queued)))
+          (range_with_len 0 n)) (sym (again.count ∙ recall.count ∙ whole.lanes_are.all))
+          ∙ sym (sum_at (λ (lane : Lane). length (sent lane))
+          (λ lane. length (entries_of_lane lane (now ++ queued))) 0 c.reissue_all.new.lanes
+          (λ i d less. ap length (each i d less ∙ sym (c.histories.ensures.lane i now queued))
+          ∙ ap (λ m. length (entries_of_lane m (now ++ queued))) (omega arith)));
     }
 
 pub returns-clause-all : goal.returns-clause-all
 returns-clause-all c = λ holds i d less.
-    let shut = c.shut_all.ensures in
+    let recall = c.recall_all.ensures in
     let look = c.look.ensures in
-    let again = c.reopen_all.ensures in
-    let v = view c.shut_all.new.gather.pass in
+    let again = c.reissue_all.ensures in
+    let v = view c.recall_all.new.gather.pass in
     let all = again.gather.gathered ∙ look.gather.gathered in
     let less' = subst (λ n. i < n) again.count less in
-    let less'' = subst (λ n. i < n) shut.count less' in
-    let is = noted_is c.histories.ensures.lane v look.fact.0 look.fact.1 shut.out i _ _
-    (notes_of c.look.new.gather) (again.sent i d less') look.noted all in
+    let less'' = subst (λ n. i < n) recall.count less' in
+    let is = settled_is c.histories.ensures.lane v look.fact.0 look.fact.1 recall.out i _ _
+    (settled_of c.look.new.gather) (again.sent i d less') look.settled all in
     let sent_is = (returns-clause-same c).each i d less'' in
     let front = holds.each i d less'' in
-    let same = all ∙ shut.gather.gathered in
+    let same = all ∙ recall.gather.gathered in
     all_gathered i _ _ look.fact.0 is (
       front.0,
       ap (entries_of_lane i) same ∙ front.1 ∙ ap (λ es. es ++ front.0) (sym sent_is.sent_is),

@@ -1,8 +1,7 @@
 use Rattle.plum_trials_lanes.proofs.handing.offer.Goals as goal
 
 pub returns : goal.returns
-returns g c = λ queue shape work. record {
-  is_lane = c.offer.ensures.lane queue _ work.is_lane;
+returns g c = λ opening shape work. record {
   packets = work.packets;
-  taken = c.offer.ensures.taken queue _ work.packets work.is_lane work.taken;
+  taken = c.offer.ensures.taken opening _ work.packets work.taken;
 }

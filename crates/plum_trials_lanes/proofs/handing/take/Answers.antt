@@ -10,19 +10,14 @@ take-requires-clause-lane c =
       some.0,
       c.args.number,
       some.2.packets,
-      some.2.is_lane,
       some.2.taken,
       (omega arith, own),
     )
 
 pub returns : goal.returns
-returns c = λ queue shape work.
+returns c = λ opening shape work.
     let stations = shape.0 in
     let listed = c.if-station-stations.false in
     let own = ap (λ n. c.args.packet.station.0 % n) shape.1 ∙ c.if-station-lanes.false in
-    let taken = c.take.ensures.taken queue _ work.packets work.is_lane work.taken in
-    record {
-      is_lane = c.take.ensures.lane queue _ work.is_lane;
-      packets = _;
-      taken = (taken (omega arith, own)).0;
-    }
+    let taken = c.take.ensures.taken opening _ work.packets work.taken in
+    record { packets = _; taken = (taken (omega arith, own)).0 }

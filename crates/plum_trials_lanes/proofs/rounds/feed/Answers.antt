@@ -2,7 +2,7 @@ use Rattle.plum_trials_lanes.proofs.Working.{StaysGather-then}
 use Rattle.plum_trials_lanes.proofs.rounds.feed.Goals as goal
 
 pub loop-init : goal.loop-init
-loop-init g c = record { stays = λ queue is. is }
+loop-init g c = record { stays = λ opening is. is }
 
 pub next-requires-in-loop : goal.next-requires-in-loop
 next-requires-in-loop g c = (c.requires.0, c.loop.invariant.stays c.requires.0 c.requires.1)

@@ -5,5 +5,5 @@ pub hand-requires-clause-lane : goal.hand-requires-clause-lane
 hand-requires-clause-lane g c = IsSomeLane-stays _ _ _ _ _ c.requires.lane c.loop-station.invariant
 
 pub loop-station-preserved : goal.loop-station-preserved
-loop-station-preserved g c = λ queue shape work.
-    c.hand.ensures queue shape (c.loop-station.invariant queue shape work)
+loop-station-preserved g c = λ opening shape work.
+    c.hand.ensures opening shape (c.loop-station.invariant opening shape work)

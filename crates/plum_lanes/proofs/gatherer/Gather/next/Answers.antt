@@ -1,15 +1,26 @@
-use Rattle.plum_lanes.proofs.Gathered.{valid_after, empty_then, all_after}
+use Rattle.std.proofs.Common.{◌∙◌}
+use Rattle.plum_lanes.proofs.Gathered.{valid_after, known_after, all_after}
 use Rattle.plum_lanes.proofs.gatherer.Gather.next.Goals as goal
 
-pub returns-clause-valid : goal.returns-clause-valid
-returns-clause-valid g c = λ queue gather.
-    valid_after queue.terms _ _ _ gather.gather_of.terms_are c.pop.ensures.popped
-
-pub returns-clause-empty : goal.returns-clause-empty
-returns-clause-empty g c = λ queue gather.
-    empty_then queue c.args.self.now _ _ gather.gather_of.terms_are c.pop.ensures.popped
+pub returns-clause-gather : goal.returns-clause-gather
+returns-clause-gather g c = λ opening gather.
+    let is = gather.gather_of in
+    let same = c.pop.ensures.same in
+    let popped = c.pop.ensures.popped in
+    let known = known_after _ _ _ is.gathers popped in
+    record {
+      gather_of = record {
+        ring = is.ring;
+        capacity = is.capacity;
+        pass = (same.0 ∙ is.pass.0, same.2 ∙ is.pass.1);
+        gathers = known.0;
+        basis_is = known.1 ∙ is.basis_is;
+      };
+      out = known.2 ∙ gather.out;
+      valid = valid_after opening.basis _ _ _ is.basis_is popped;
+    }
 
 pub returns-clause-all : goal.returns-clause-all
-returns-clause-all g c = λ queue lanes gather noted.
-    all_after c.valid_histories_hold_each_once.ensures queue lanes c.args.self.now _ _
-    gather.gather_of.terms_are noted c.pop.ensures.popped
+returns-clause-all g c = λ opening lanes gather settled.
+    all_after c.valid_histories_hold_each_once.ensures opening lanes c.args.self.now _ _
+    gather.gather_of.basis_is settled c.pop.ensures.popped

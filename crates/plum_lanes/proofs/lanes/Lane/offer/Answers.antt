@@ -4,6 +4,6 @@ use Rattle.plum_lanes.proofs.Sent.{was_full}
 use Rattle.plum_lanes.proofs.lanes.Lane.offer.Goals as goal
 
 pub returns-in-Err-clause-busy : goal.returns-in-Err-clause-busy
-returns-in-Err-clause-busy g c = λ queue number is.
-    was_full queue number c.args.self.now is _ (ap ruled_capacity c.deref.ensures)
+returns-in-Err-clause-busy g c = λ opening number is.
+    was_full opening number c.args.self.now is _ (ap ruled_capacity c.deref.ensures)
     c.in-Err.ensures.sent.2

@@ -4,8 +4,8 @@ pub returns : goal.returns
 returns g c =
     let is = c.requires in
     record {
-      queue = is.queue;
+      opening = is.opening;
       shape = is.shape;
       at_work = is.at_work;
-      gather_is = c.next.ensures.gather is.queue is.gather_is;
+      gather_is = c.next.ensures.gather is.opening is.gather_is;
     }

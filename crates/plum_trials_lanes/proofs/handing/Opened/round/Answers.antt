@@ -9,9 +9,9 @@ side_by_side-requires-clause-lanes g c κs within =
     let is = c.requires in
     let slice : c.as_mut_slice-lanes.result.now ≡ c.args.self.now.lanes.items =
     c.as_mut_slice-lanes.ensures.value in
-    let shape : IsOf c.args.self.now.stations (length c.as_slice-count.result.now) is.queue =
+    let shape : IsOf c.args.self.now.stations (length c.as_slice-count.result.now) is.opening =
     (is.shape.0, is.shape.1 ∙ sym (ap length c.as_slice-count.ensures.value)) in
-    AreSomeLanes-at_work is.queue _ _ _ shape (subst (AreAtWork is.queue) (sym slice) is.at_work)
+    AreSomeLanes-at_work is.opening _ _ _ shape (subst (AreAtWork is.opening) (sym slice) is.at_work)
 
 pub close-requires : goal.close-requires
 close-requires g c =
@@ -19,18 +19,18 @@ close-requires g c =
     let start = c.args.self.now.lanes in
     let slice : c.as_mut_slice-lanes.result.now ≡ start.items =
     c.as_mut_slice-lanes.ensures.value in
-    let shape : IsOf c.args.self.now.stations (length c.as_slice-count.result.now) is.queue =
+    let shape : IsOf c.args.self.now.stations (length c.as_slice-count.result.now) is.opening =
     (is.shape.0, is.shape.1 ∙ sym (ap length c.as_slice-count.ensures.value)) in
     let long : length c.side_by_side.new.lanes ≡ length start.items =
     c.side_by_side.auto.lanes ∙ ap length slice in
     let now : (with_items start c.side_by_side.new.lanes).items ≡ c.side_by_side.new.lanes =
     items_of start.items start.len c.side_by_side.new.lanes start.ok.0 long in
     record {
-      queue = is.queue;
+      opening = is.opening;
       shape = (is.shape.0, is.shape.1 ∙ sym (ap length now ∙ long));
       at_work =
-          subst (AreAtWork is.queue) (sym now)
-          (AreAtWork-stay is.queue _ _ _ _ shape c.side_by_side.auto.lanes
-          c.side_by_side.ensures.lanes (subst (AreAtWork is.queue) (sym slice) is.at_work));
-      gather_is = c.side_by_side.ensures.gather.stays is.queue is.gather_is;
+          subst (AreAtWork is.opening) (sym now)
+          (AreAtWork-stay is.opening _ _ _ _ shape c.side_by_side.auto.lanes
+          c.side_by_side.ensures.lanes (subst (AreAtWork is.opening) (sym slice) is.at_work));
+      gather_is = c.side_by_side.ensures.gather.stays is.opening is.gather_is;
     }

@@ -1,8 +1,10 @@
 use Rattle.std.proofs.Common.{◌≡◌, ℕ, ◌<◌, ◌≤◌, length, slice_index_or}
 use Rattle.plum_lanes.specs.declared.lanes.Lane.{Lane}
-use Rattle.plum_lanes.specs.Rule.{noted_at}
-use Rattle.plum_lanes.specs.Lanes.{sent, notes_of, out_of, IsSameGather, IsSameBut}
-use Rattle.plum_lanes.proofs.closing.shut_all.Given as goal
+use Rattle.plum_lanes.specs.Rule.{settled_at}
+use Rattle.plum_lanes.specs.Lanes.{sent}
+use Rattle.plum_lanes.specs.Gathering.{settled_of, out_of}
+use Rattle.plum_lanes.specs.Passing.{IsSameGather, IsSameBut}
+use Rattle.plum_lanes.proofs.closing.recall_all.Given as goal
 
 abbrev pub invariant-loop-left : goal.invariant-loop-left
 invariant-loop-left l = record {
@@ -13,7 +15,7 @@ invariant-loop-left l = record {
   below : (i : ℕ) (d : Lane) → i < l.left
       → slice_index_or l.lanes i d ≡ slice_index_or l.initial.lanes i d;
   above : (i : ℕ) (d : Lane) → l.left ≤ i → i < length l.initial.lanes
-      → noted_at (notes_of l.gather) i ≡ sent (slice_index_or l.initial.lanes i d);
+      → settled_at (settled_of l.gather) i ≡ sent (slice_index_or l.initial.lanes i d);
   same : (i : ℕ) (d : Lane) → i < length l.initial.lanes
       → IsSameBut (slice_index_or l.initial.lanes i d) (slice_index_or l.lanes i d);
 }
