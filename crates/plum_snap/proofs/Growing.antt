@@ -18,7 +18,7 @@ grows_more x y a law g is =
       right = subst (λ (es : List Entry). StandsFor (board_after y.board a.entry) y.board.sites es)
           (sym longer) (law y.board y.board.sites y.front.entries a.entry g.right);
       sites = g.sites;
-      publisher = ap (λ f. f.publisher) is ∙ g.publisher;
+      list = ap (λ f. f.list) is ∙ g.list;
       longer = prefix_drop x.front.entries a.front.entries
           (prefix_trans x.front.entries y.front.entries a.front.entries before more);
     }

@@ -3,3 +3,6 @@ mod Fronts
 mod Moves
 mod Growing
 mod Filling
+mod Cells
+mod Marking
+mod Raising

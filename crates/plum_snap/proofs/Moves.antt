@@ -22,7 +22,7 @@ all_set F ends n w mine others j u e =
 nobody_fits : (x : Snapshot) → Fits x nobody
 nobody_fits x = record {
   front = (x.front.entries, refl);
-  publisher = λ known. absurd (true≢false (sym known));
+  list = λ known. absurd (true≢false (sym known));
   sites = λ known. absurd (true≢false (sym known));
 }
 
@@ -30,14 +30,14 @@ later_fits : (x y : Snapshot) (u : View) → Grows x y → Fits x u → Fits y u
 later_fits x y u g f = record {
   front = prefix_trans u.seen.front.entries x.front.entries y.front.entries f.front
       (drop (length x.front.entries) y.front.entries, sym g.longer);
-  publisher = λ known. f.publisher known ∙ sym g.publisher;
+  list = λ known. f.list known ∙ sym g.list;
   sites = λ known. f.sites known ∙ sym g.sites;
 }
 
 saw_fits : (y : Snapshot) → Fits y (saw y)
 saw_fits y = record {
   front = prefix_self y.front.entries;
-  publisher = λ _. refl;
+  list = λ _. refl;
   sites = λ _. refl;
 }
 
@@ -67,7 +67,7 @@ sees n v x ends h at =
     let same : Grows x x = record {
       right = h.right;
       sites = refl;
-      publisher = refl;
+      list = refl;
       longer = prefix_drop x.front.entries x.front.entries (prefix_self x.front.entries);
     } in
     grows n v x x same ends h at

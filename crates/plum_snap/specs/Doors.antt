@@ -21,13 +21,14 @@ pub record EntranceView : Type 0 where
 
 -- the same, from inside: what is shown there
 pub record InsideView : Type 0 where
+  pub publisher : PublisherId
   pub shown : Snapshot
   pub shut : ℕ
 
 -- the place that is left, once what is shown was seen
 abbrev pub left_from : InsideView → EntranceView
 left_from inside = record {
-  publisher = inside.shown.front.publisher;
+  publisher = inside.publisher;
   sites = inside.shown.board.sites;
   seen = inside.shown.front.entries;
   shut = inside.shut;
@@ -37,7 +38,7 @@ left_from inside = record {
 -- had been seen.
 pub record LetsIn (before : EntranceView) (inside : InsideView) : Type 0 where
   pub right : IsRight inside.shown
-  pub publisher : inside.shown.front.publisher ≡ before.publisher
+  pub publisher : inside.publisher ≡ before.publisher
   pub sites : inside.shown.board.sites ≡ before.sites
   pub goes_on : IsPrefix before.seen inside.shown.front.entries
   pub shut : inside.shut ≡ before.shut

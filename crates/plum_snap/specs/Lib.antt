@@ -1,5 +1,6 @@
 pub mod Fronts
 pub mod History
+pub mod Limits
 pub mod Snapshots
 pub mod Rule
 pub mod Doors

@@ -18,7 +18,7 @@ nobody = record {
   seen = record {
     board = record { sites = record { stations = []; targets = [] }; values = []; count = 0 };
     front = record {
-      publisher = record { number = 0; log_name = 0; cells_name = 0 };
+      list = record { number = 0; log_name = 0; cells_name = 0 };
       entries = [];
     };
   };
@@ -29,10 +29,10 @@ abbrev pub saw : Snapshot → View
 saw shown = record { known = true; seen = shown }
 
 -- What an end has seen is a front of what is published. One that was told anything is of the same
--- publisher and the same sites.
+-- list and the same sites.
 pub record Fits (shown : Snapshot) (end : View) : Type 0 where
   pub front : IsPrefix end.seen.front.entries shown.front.entries
-  pub publisher : end.known ≡ true → end.seen.front.publisher ≡ shown.front.publisher
+  pub list : end.known ≡ true → end.seen.front.list ≡ shown.front.list
   pub sites : end.known ≡ true → end.seen.board.sites ≡ shown.board.sites
 
 -- The rule.

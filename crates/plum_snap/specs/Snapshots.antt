@@ -20,6 +20,6 @@ snapshot_after shown addition = record {
 pub record Grows (earlier later : Snapshot) : Type 0 where
   pub right : IsRight later
   pub sites : later.board.sites ≡ earlier.board.sites
-  pub publisher : later.front.publisher ≡ earlier.front.publisher
+  pub list : later.front.list ≡ earlier.front.list
   pub longer : later.front.entries
       ≡ earlier.front.entries ++ drop (length earlier.front.entries) later.front.entries

@@ -6,7 +6,7 @@
 ghost use Rattle.std.specs.Prelude.{◌≡◌, ◌^◌, ◌<◌, [], ◌∷◌, ◌++◌, length, IfSome};
 ghost use Rattle.plum_snap.specs.History.{head_of};
 
-use crate::receipt::Receipt;
+use crate::front::Front;
 use logbook::{Gain, Offer, Plain, Play, Rule, Seen, Start, Word};
 use plum_base::Entry;
 
@@ -64,19 +64,19 @@ pub type Reached = Seen<Entry, u64, Law>;
 pub type Head = Word<Entry, u64, Law>;
 
 /// A new list, which is empty, and the front that has all of it.
-pub fn begin() -> (Head, Receipt)
-    ensures head { result.0 ≡ head_of result.1.publisher }
+pub fn begin() -> (Head, Front)
+    ensures head { result.0 ≡ head_of result.1.list }
     ensures empty { result.1.entries ≡ [] }
 {
     let (reached, mut first, _second) = Seen::open(Start::alone(), 0, 0);
-    let front = Receipt { count: 0, reached };
+    let front = Front { count: 0, reached };
     (Word::tracked(0, &mut first), front)
 }
 
 /// The list with an entry more than this front. None where it had more already, which no run takes:
 /// one publisher alone extends it.
-pub fn extend(head: &Head, front: &Receipt, entry: &Entry) -> Option<Receipt>
-    requires head { head.now ≡ head_of front.now.publisher }
+pub fn extend(head: &Head, front: &Front, entry: &Entry) -> Option<Front>
+    requires head { head.now ≡ head_of front.now.list }
     requires room { length front.now.entries < 2 ^ 33 }
     ensures { IfSome result (λ longer. longer ≡ record front.now {
       entries = front.now.entries ++ entry.now ∷ [];
@@ -88,7 +88,7 @@ pub fn extend(head: &Head, front: &Receipt, entry: &Entry) -> Option<Receipt>
     let (old, new) = (front.count, front.count + 1);
     let found = head.compare_exchange::<Add, Nothing>(old, new, &mut reached, &mut offer, &mut pen);
     if found == old {
-        Some(Receipt {
+        Some(Front {
             count: new,
             reached,
         })

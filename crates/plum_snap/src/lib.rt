@@ -10,7 +10,9 @@
 mod answering;
 mod doors;
 mod ends;
+mod front;
 mod history;
+mod limit;
 mod opening;
 mod publisher;
 mod receipt;

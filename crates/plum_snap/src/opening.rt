@@ -12,7 +12,9 @@ ghost use Rattle.plum_snap.specs.Snapshots.{IsRight};
 
 use crate::doors::Doors;
 use crate::ends::{Ink, publish};
+use crate::front::Front;
 use crate::history::begin;
+use crate::limit::Limit;
 use crate::publisher::Publisher;
 use crate::receipt::Receipt;
 use crate::session::Session;
@@ -32,7 +34,7 @@ pub enum OpenFault {
 }
 
 /// What the empty list shows.
-fn blank(alloc: Global, sites: &Sites, front: &Receipt) -> Result<Snapshot, NoMemory>
+fn blank(alloc: Global, sites: &Sites, front: &Front) -> Result<Snapshot, NoMemory>
     requires { front.now.entries ≡ [] }
     ensures shown { IfOk result (λ shown. shown ≡ record {
       board = new_board sites.now;
@@ -47,7 +49,7 @@ fn blank(alloc: Global, sites: &Sites, front: &Receipt) -> Result<Snapshot, NoMe
 }
 
 /// A writer that shows the empty list, and knows it.
-fn writer<R: Wait>(rt: &R, alloc: Global, sites: &Sites, front: &Receipt) -> Result<Ink, NoMemory>
+fn writer<R: Wait>(rt: &R, alloc: Global, sites: &Sites, front: &Front) -> Result<Ink, NoMemory>
     requires { front.now.entries ≡ [] }
     ensures shown { IfOk result (λ ink. (ink.desk.shown.value ≡ record {
       board = new_board sites.now;
@@ -70,11 +72,14 @@ fn session(
     area: Name,
     doors: &mut Doors,
     writer: &mut Ink,
+    limit: &Limit,
     front: &Receipt,
 ) -> Result<Session, OpenFault>
+    requires limit { limit.now.book ≡ front.now.publisher.limit }
     requires empty { front.now.entries ≡ [] }
     requires known { (sides.view writer.old.desk.place).known ≡ true }
-    requires one { (sides.view writer.old.desk.place).seen.front.publisher ≡ front.now.publisher }
+    requires one { (sides.view writer.old.desk.place).seen.front.list
+        ≡ front.now.publisher.list }
     requires sites { (sides.view writer.old.desk.place).seen.board.sites ≡ sites.now }
     ensures session { IfOk result (λ session.
         session ≡ new_session front.now.publisher sites.now area) }
@@ -83,7 +88,8 @@ fn session(
     ensures knows { sides.view writer.new.desk.place ≡ sides.view writer.old.desk.place }
     ensures writer { IsAsBefore writer.old writer.new }
 {
-    let Some(entrance) = doors.entrance(writer, front) else {
+    let shared = limit.shared().map_err(|_| OpenFault::NoMemory)?;
+    let Some(entrance) = doors.entrance(writer, shared, front) else {
         return Err(OpenFault::NoPlace);
     };
     match Session::new(alloc, sites, area, entrance) {
@@ -98,11 +104,14 @@ fn sessions(
     sites: &Sites,
     doors: &mut Doors,
     writer: &mut Ink,
+    limit: &Limit,
     front: &Receipt,
 ) -> Result<Vec<Session>, OpenFault>
+    requires limit { limit.now.book ≡ front.now.publisher.limit }
     requires empty { front.now.entries ≡ [] }
     requires known { (sides.view writer.old.desk.place).known ≡ true }
-    requires one { (sides.view writer.old.desk.place).seen.front.publisher ≡ front.now.publisher }
+    requires one { (sides.view writer.old.desk.place).seen.front.list
+        ≡ front.now.publisher.list }
     requires sites { (sides.view writer.old.desk.place).seen.board.sites ≡ sites.now }
     ensures sessions { IfOk result (λ v. v.items
         ≡ map (new_session front.now.publisher sites.now) (areas_of sites.now.targets)) }
@@ -113,7 +122,7 @@ fn sessions(
     let mut sessions = Vec::new(alloc);
     for a in 0..sites.areas() {
         let area = sites.area_name(AreaNo(a));
-        let session = session(alloc, sites, area, doors, writer, front)?;
+        let session = session(alloc, sites, area, doors, writer, limit, front)?;
         sessions.push(session).map_err(|_| OpenFault::NoMemory)?;
     }
     Ok(sessions)
@@ -133,9 +142,11 @@ pub fn open<R: Wait>(
         (IsRefused doors.old doors.new) }
 {
     let (head, front) = begin();
+    let limit = Limit::begin(alloc).map_err(|_| OpenFault::NoMemory)?;
+    let first = Receipt::new(front.again(), limit.marks());
     let mut ink = writer(rt, alloc, sites, &front).map_err(|_| OpenFault::NoMemory)?;
-    match sessions(alloc, sites, doors, &mut ink, &front) {
-        Ok(sessions) => Ok((Publisher::new(head, front, ink), sessions)),
+    match sessions(alloc, sites, doors, &mut ink, &limit, &first) {
+        Ok(sessions) => Ok((Publisher::new(head, front, limit, ink), sessions)),
         Err(fault) => {
             ink.take(rt);
             Err(fault)

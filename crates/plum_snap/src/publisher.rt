@@ -7,8 +7,11 @@ ghost use Rattle.plum_snap.specs.History.{head_of};
 ghost use Rattle.plum_snap.specs.Snapshots.{IsRight};
 
 use crate::ends::{Ink, add, publish};
+use crate::front::Front;
 use crate::history::{Head, extend};
+use crate::limit::Limit;
 use crate::receipt::Receipt;
+use crate::session::Session;
 use crate::snapshot::Addition;
 use core::mem::replace_with;
 use plum_base::{Entry, NoMemory};
@@ -22,14 +25,16 @@ use std::sync::Wait;
 pub struct Publisher {
     head: Head,
     /// All that was appended.
-    front: Receipt,
+    front: Front,
+    /// Fronts that are shorter are published.
+    limit: Limit,
     writer: Ink,
     /// Whether an append was refused.
     closed: bool,
 }
 
 impl Model for Publisher {
-    ghost use Rattle.std.specs.Prelude.{◌≡◌};
+    ghost use Rattle.std.specs.Prelude.{◌≡◌, ◌+◌, length};
     ghost use Rattle.plum_snap.specs.History.{head_of};
     ghost use Rattle.plum_snap.specs.Publisher.{PublisherView};
     ghost use Rattle.plum_snap.specs.Rule.{next_of};
@@ -38,34 +43,38 @@ impl Model for Publisher {
     ghost Value = { PublisherView };
 
     ghost view = { λ p. record {
-      publisher = p.front.publisher;
+      publisher = record { list = p.front.list; limit = p.limit.book };
       appended = p.front.entries;
       published = p.writer.desk.shown.value.front.entries;
       closed = p.closed;
     } };
 
-    ghost invariant = { λ p. (p.head ≡ head_of p.front.publisher)
+    ghost invariant = { λ p. (p.head ≡ head_of p.front.list)
         × Grows p.writer.desk.shown.value (next_of p.writer)
-        × ((next_of p.writer).front ≡ p.front) };
+        × ((next_of p.writer).front ≡ p.front)
+        × (p.limit.limit ≡ length p.writer.desk.shown.value.front.entries + 1) };
 }
 
 impl Publisher {
     /// One that has appended and published what the front has.
-    pub(crate) fn new(head: Head, front: Receipt, writer: Ink) -> Publisher
-        requires head { head ≡ head_of front.publisher }
+    pub(crate) fn new(head: Head, front: Front, limit: Limit, writer: Ink) -> Publisher
+        requires head { head ≡ head_of front.list }
         requires right { IsRight writer.desk.shown.value }
         requires front { writer.desk.shown.value.front ≡ front }
         requires none { drop writer.behind writer.log.items ≡ [] }
+        requires empty { front.entries ≡ [] }
+        requires limit { limit.limit ≡ 1 }
         ensures { result ≡ record {
-          publisher = front.publisher;
-          appended = front.entries;
-          published = front.entries;
+          publisher = record { list = front.list; limit = limit.book };
+          appended = [];
+          published = [];
           closed = false;
         } }
     {
         Publisher {
             head,
             front,
+            limit,
             writer,
             closed: false,
         }
@@ -102,6 +111,8 @@ impl Publisher {
     pub fn publish<R: Wait>(&mut self, rt: &R)
         ensures { self.new ≡ record self.old { published = self.old.appended } }
     {
+        // First the limit: what a reader finds is then below it.
+        self.limit.raise(self.front.count() + 1);
         replace_with(&mut self.writer, (), |writer, _| (publish(rt, writer), ()));
     }
 
@@ -121,17 +132,32 @@ impl Publisher {
         } }
         ensures same { self.new ≡ self.old }
     {
-        self.writer.published().front.again()
+        Receipt::new(self.writer.published().front.again(), self.limit.marks())
     }
 
-    /// All that was appended.
-    pub(crate) fn appended(&self) -> &Receipt
-        ensures { result.now ≡ record {
-          publisher = self.now.publisher;
-          entries = self.now.appended;
-        } }
+    /// Each receipt of it is of a front of what is published.
+    pub fn shows_receipt(&mut self, receipt: &Receipt)
+        requires { receipt.now.publisher ≡ self.old.publisher }
+        ensures front { IsPrefix receipt.now.entries self.old.published }
+        ensures all { IsPrefix self.old.published receipt.now.entries
+            → receipt.now.entries ≡ self.old.published }
+        ensures same { self.new ≡ self.old }
     {
-        &self.front
+        self.limit.covers(receipt.marks());
+        receipt
+            .front()
+            .are_of_one_list(&self.writer.published().front);
+    }
+
+    /// A session has seen no more than is published: a front of it, or all.
+    pub fn shows_what_was_seen(&mut self, session: &Session)
+        requires { session.now.publisher ≡ self.old.publisher }
+        ensures front { IsPrefix session.now.seen self.old.published }
+        ensures all { IsPrefix self.old.published session.now.seen
+            → session.now.seen ≡ self.old.published }
+        ensures same { self.new ≡ self.old }
+    {
+        self.shows_receipt(session.seen());
     }
 
     /// Uses up the publisher, with what is pending. Its sessions are shut out from then on.
@@ -139,6 +165,7 @@ impl Publisher {
         let Publisher {
             head: _head,
             front: _front,
+            limit: _limit,
             writer,
             closed: _,
         } = self;

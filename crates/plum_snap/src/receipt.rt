@@ -1,45 +1,81 @@
-//! Fronts of the one list of a publisher.
+//! Fronts that were published.
 
-ghost use Rattle.std.specs.Prelude.{◌≡◌, ◌⊎◌, length, IfSome};
+ghost use Rattle.std.specs.Prelude.{◌≡◌, ◌<◌, ◌⊎◌, length, IfSome};
 ghost use mathlib.Core.List.{IsPrefix};
+ghost use Rattle.plum_snap.specs.Limits.{limit_of, limit_word};
 
-use crate::history::Reached;
+use crate::front::Front;
+use crate::limit::{Marks, SharedLimit, read_limit};
 use std::marker::Model;
 
-/// A front of a publisher's list, as what was published at some moment. It has no entries, but the
-/// proof that the list has reached them. Contracts see whose list it is, and the entries.
+/// A front of a publisher's list, as what was published at some moment. Contracts see whose list it
+/// is, and the entries.
 #[derive(Drop)]
 pub struct Receipt {
-    pub(crate) count: u64,
-    pub(crate) reached: Reached,
+    front: Front,
+    /// The limit has come past the front.
+    marks: Marks,
 }
 
 impl Model for Receipt {
-    ghost use Rattle.std.specs.Prelude.{◌≡◌, length};
-    ghost use Rattle.plum_snap.specs.Fronts.{FrontView};
+    ghost use Rattle.std.specs.Prelude.{◌<◌, length};
+    ghost use Rattle.plum_snap.specs.Fronts.{ReceiptView};
+    ghost use Rattle.plum_snap.specs.Limits.{limit_of};
 
-    ghost Value = { FrontView };
+    ghost Value = { ReceiptView };
 
-    ghost view = { λ r. record { publisher = r.reached.book; entries = r.reached.log } };
+    ghost view = { λ r. record {
+      publisher = record { list = r.front.list; limit = r.marks.book };
+      entries = r.front.entries;
+    } };
 
-    ghost invariant = { λ r. r.count ≡ length r.reached.log };
+    ghost invariant = { λ r. length r.front.entries < limit_of r.marks.log };
 }
 
 impl Receipt {
+    /// That of a front which is shorter than the limit.
+    pub(crate) fn new(front: Front, marks: Marks) -> Receipt
+        requires { length front.entries < limit_of marks.log }
+        ensures { result ≡ record {
+          publisher = record { list = front.list; limit = marks.book };
+          entries = front.entries;
+        } }
+    {
+        Receipt { front, marks }
+    }
+
     /// How many entries it has.
     pub fn count(&self) -> u64
         ensures { result ≡ length self.now.entries }
     {
-        self.count
+        self.front.count()
     }
 
-    /// The same front.
+    /// The front that it is of.
+    pub(crate) fn front(&self) -> &Front
+        ensures { result.now ≡ record {
+          list = self.now.publisher.list;
+          entries = self.now.entries;
+        } }
+    {
+        &self.front
+    }
+
+    /// What tells that it was published.
+    pub(crate) fn marks(&self) -> &Marks
+        ensures book { result.now.book ≡ self.now.publisher.limit }
+        ensures limit { length self.now.entries < limit_of result.now.log }
+    {
+        &self.marks
+    }
+
+    /// The same receipt.
     pub(crate) fn again(&self) -> Receipt
         ensures { result ≡ self.now }
     {
         Receipt {
-            count: self.count,
-            reached: self.reached.again(),
+            front: self.front.again(),
+            marks: self.marks.again(),
         }
     }
 
@@ -49,21 +85,25 @@ impl Receipt {
         ensures { IsPrefix self.now.entries other.now.entries
             ⊎ IsPrefix other.now.entries self.now.entries }
     {
-        let mut both = self.reached.again();
-        both.learn(&other.reached);
+        self.front.are_of_one_list(&other.front);
     }
 
-    /// The other front, where it is no shorter: this one begins it.
-    pub(crate) fn up_to(&self, other: &Receipt) -> Option<Receipt>
-        requires { other.now.publisher ≡ self.now.publisher }
-        ensures { IfSome result (λ f. (f ≡ other.now)
-            × IsPrefix self.now.entries other.now.entries) }
+    /// The receipt of a front of the same list, where it is published and no shorter: this one
+    /// begins it.
+    pub(crate) fn up_to(&self, front: &Front, limit: &SharedLimit) -> Option<Receipt>
+        requires list { front.now.list ≡ self.now.publisher.list }
+        requires limit { limit.now ≡ limit_word self.now.publisher.limit }
+        ensures { IfSome result (λ r. (r ≡ record {
+          publisher = self.now.publisher;
+          entries = front.now.entries;
+        }) × IsPrefix self.now.entries front.now.entries) }
     {
-        self.are_of_one_list(other);
-        if other.count < self.count {
+        self.front.are_of_one_list(front);
+        let (limit, marks) = read_limit(limit, &self.marks);
+        if front.count() < self.count() || limit <= front.count() {
             None
         } else {
-            Some(other.again())
+            Some(Receipt::new(front.again(), marks))
         }
     }
 
@@ -75,7 +115,7 @@ impl Receipt {
         ensures that { IsPrefix other.entries result.entries }
     {
         self.are_of_one_list(&other);
-        if self.count < other.count {
+        if self.count() < other.count() {
             other
         } else {
             self

@@ -8,7 +8,6 @@ ghost use Rattle.plum_snap.specs.Sessions.{HasRead, WasShutOut, first_reading};
 
 use crate::answering::{answer, numbers_in, unanswered};
 use crate::doors::Entrance;
-use crate::publisher::Publisher;
 use crate::receipt::Receipt;
 use core::mem::replace_with;
 use plum_base::{Name, NoMemory, Reading, Shut, Sites, TargetNo};
@@ -168,14 +167,14 @@ impl Session {
         self.entrance.learn(receipt);
     }
 
-    /// What a session has seen and what its publisher has appended are fronts of one list: one
-    /// begins the other.
-    pub fn reads_the_list_of(&self, publisher: &Publisher)
-        requires { publisher.now.publisher ≡ self.now.publisher }
-        ensures { IsPrefix self.now.seen publisher.now.appended
-            ⊎ IsPrefix publisher.now.appended self.now.seen }
+    /// What it has seen.
+    pub(crate) fn seen(&self) -> &Receipt
+        ensures { result.now ≡ record {
+          publisher = self.now.publisher;
+          entries = self.now.seen;
+        } }
     {
-        self.entrance.seen().are_of_one_list(publisher.appended());
+        self.entrance.seen()
     }
 
     /// What two sessions of one publisher have seen are fronts of one list: one begins the other.

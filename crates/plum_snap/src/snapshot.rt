@@ -1,6 +1,6 @@
 //! What is published: a board, with the front that it is the board of.
 
-use crate::receipt::Receipt;
+use crate::front::Front;
 use left_right::Absorb;
 use plum_base::Entry;
 use plum_board::Board;
@@ -10,14 +10,14 @@ use std::alloc::AllocError;
 #[derive(Drop)]
 pub struct Snapshot {
     pub board: Board,
-    pub front: Receipt,
+    pub front: Front,
 }
 
 /// An entry, with the front that it ends.
 #[derive(Drop)]
 pub struct Addition {
     pub entry: Entry,
-    pub front: Receipt,
+    pub front: Front,
 }
 
 /// It never fails.

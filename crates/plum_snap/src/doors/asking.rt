@@ -1,14 +1,18 @@
 //! Asking for a place of a reader.
 
 ghost use Rattle.std.specs.Prelude.{◌≡◌, ◌≤◌, true, MatchOption};
+ghost use Rattle.std.specs.Arc.{arc_value};
 ghost use Rattle.left_right.specs.Sides as sides;
 ghost use Rattle.plum_snap.specs.Doors.{Rose};
+ghost use Rattle.plum_snap.specs.Limits.{limit_word};
 ghost use Rattle.plum_snap.specs.Rule.{IsAsBefore};
 
 use super::Entrance;
 use crate::ends::{Ink, reader};
+use crate::limit::SharedLimit;
 use crate::receipt::Receipt;
 use std::marker::Model;
+use std::sync::Arc;
 
 /// How often a place of a reader was refused. Contracts see the count.
 #[derive(Drop)]
@@ -40,10 +44,16 @@ impl Doors {
     }
 
     /// A place at the board of a writer. None where it is refused, which is counted.
-    pub(crate) fn entrance(&mut self, writer: &mut Ink, front: &Receipt) -> Option<Entrance>
+    pub(crate) fn entrance(
+        &mut self,
+        writer: &mut Ink,
+        limit: Arc<SharedLimit>,
+        front: &Receipt,
+    ) -> Option<Entrance>
+        requires limit { arc_value limit ≡ limit_word front.now.publisher.limit }
         requires known { (sides.view writer.old.desk.place).known ≡ true }
-        requires one { (sides.view writer.old.desk.place).seen.front.publisher
-            ≡ front.now.publisher }
+        requires one { (sides.view writer.old.desk.place).seen.front.list
+            ≡ front.now.publisher.list }
         ensures entrance { MatchOption result
             (Rose self.old self.new)
             (λ e. (e ≡ record {
@@ -57,7 +67,7 @@ impl Doors {
         ensures same { IsAsBefore writer.old writer.new }
     {
         match reader(writer) {
-            Ok(reader) => Some(Entrance::new(reader, front.again())),
+            Ok(reader) => Some(Entrance::new(reader, limit, front.again())),
             Err(_) => {
                 self.refused = self.refused.saturating_add(1);
                 None

@@ -10,12 +10,12 @@ compare_exchange-found-requires c =
     let pen = c.no_pen-pen.ensures in
     let front = c.front.inside in
     let book : c.again-reached.result.book ≡ c.args.head.now.book =
-    ap (λ r. r.book) reached ∙ ap (λ f. f.publisher) c.front.view_is
+    ap (λ r. r.book) reached ∙ ap (λ f. f.list) c.front.view_is
     ∙ sym (ap (λ w. w.book) head) in (
       ap (λ w. w.tracked) head,
       book,
       pen.0 ∙ book,
       offer.0,
       rw (ap (λ w. w.key) head, pen.1, offer.1, offer.3, ap (λ r. r.log) reached)
-          (adds_moves front.reached.log c.args.entry.now front.count (sym c.front.invariant)),
+          (adds_moves front.reached.log c.args.entry.now front.count (sym c.front.invariant.0)),
     )

@@ -1,4 +1,4 @@
-use Rattle.std.proofs.Common.{rules, ◌≡◌, ap, sym, subst, [], ◌∷◌, ◌++◌}
+use Rattle.std.proofs.Common.{rules, ◌≡◌, ap, sym, subst, [], ◌∷◌, ◌++◌, ◌+◌, length}
 use Rattle.plum_snap.specs.declared.snapshot.Addition.{Addition}
 use Rattle.plum_snap.specs.declared.snapshot.Snapshot.{Snapshot}
 use Rattle.plum_snap.specs.Rule.{next_of}
@@ -25,4 +25,6 @@ invariant_of-self-2 c =
       search rules,
       subst (λ (x : Snapshot). Grows x (next_of c.add.new.writer)) (sym same) grown,
       search rules,
+      subst (λ (x : Snapshot). c.self.inside.limit.limit ≡ length x.front.entries + 1) (sym same)
+          c.self.invariant.3,
     )

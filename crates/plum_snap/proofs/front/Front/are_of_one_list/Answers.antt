@@ -2,7 +2,7 @@ use Rattle.std.proofs.Common.{ap, subst, List}
 use mathlib.Core.List.{IsPrefix}
 use Rattle.plum_base.specs.declared.entry.Entry.{Entry}
 use Rattle.plum_snap.proofs.Fronts.{prefix_either}
-use Rattle.plum_snap.proofs.receipt.Receipt.are_of_one_list.Goals as goal
+use Rattle.plum_snap.proofs.front.Front.are_of_one_list.Goals as goal
 
 pub returns : goal.returns
 returns c =
