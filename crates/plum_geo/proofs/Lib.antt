@@ -2,3 +2,4 @@ pub mod Scans
 pub mod LastValues
 pub mod Predictions
 pub mod Showing
+pub mod Corners

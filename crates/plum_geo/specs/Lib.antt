@@ -1,3 +1,4 @@
 pub mod Prediction
 pub mod Corrected
 pub mod Shown
+pub mod Square

@@ -1,13 +1,14 @@
 //! What stations show, and predictions from it by a scan of all stations.
 
 ghost use Rattle.std.specs.Prelude.{◌≡◌, ◌<◌, ◌≤ℤ◌, ◌⊎◌, ℕ, List, [], ◌∷◌, ◌++◌, length, All, replicate};
-ghost use Rattle.std.specs.Prelude.{Some, None, IfSome, IfNone, IsSomeAnd, IfOk, IsTrue};
+ghost use Rattle.std.specs.Prelude.{Option, Some, None, IfSome, IfNone, IsSomeAnd, IfOk, IsTrue};
 ghost use Rattle.plum_base.specs.declared.entry.Entry.{Entry};
 ghost use Rattle.plum_base.specs.declared.numbers.Tenths.{Tenths};
 ghost use Rattle.plum_base.specs.Levels.{IsFactor};
 ghost use Rattle.plum_base.specs.Sites.{IsPlace, AreStations};
 ghost use Rattle.plum_geo.specs.Prediction.{none_or_on_scale, IsOnScale, IsNear, corrected};
 ghost use Rattle.plum_geo.specs.Prediction.{IsBest, plus_factor, IsPredictionOver};
+ghost use Rattle.plum_base.specs.declared.sites.StationSite.{StationSite};
 ghost use Rattle.plum_geo.specs.Corrected.{IsOnCorrectedScale};
 ghost use Rattle.plum_geo.specs.Shown.{value_in, AreShown, shown_after};
 
@@ -69,13 +70,12 @@ impl Shown {
         ensures { (entries : List Entry) → AreShown self.now (length stations.now) entries
             → IsPredictionOver stations.now entries target.now result }
     {
-        let best = best_at(stations, self.values.as_slice(), target.at)?;
-        Some(plus(best, target))
+        predicted(best_at(stations, self.values.as_slice(), target.at), target)
     }
 }
 
 /// Whether a value is none or from -10.0 to 22.7.
-fn none_or_on_scale(value: Option<Tenths>) -> bool
+pub fn none_or_on_scale(value: Option<Tenths>) -> bool
     ensures value { result ≡ none_or_on_scale value }
     ensures scale { IsTrue result → IfSome value IsOnScale }
 {
@@ -106,7 +106,7 @@ fn said_by(site: &StationSite, shown: Option<Tenths>, place: Point) -> Option<Te
 }
 
 /// A value less the factor of its station.
-fn less(value: Tenths, site: &StationSite) -> Tenths
+pub fn less(value: Tenths, site: &StationSite) -> Tenths
     requires scale { IsOnScale value }
     requires factor { IsFactor site.now.factor }
     ensures value { result.0 ≡ corrected site.now value }
@@ -124,8 +124,24 @@ fn plus(best: Tenths, target: &TargetSite) -> Tenths
     Tenths(best.0 + target.factor.0)
 }
 
+/// The prediction at a target, by the best at its place.
+pub fn predicted(best: Option<Tenths>, target: &TargetSite) -> Option<Tenths>
+    requires scale { IfSome best IsOnCorrectedScale }
+    requires factor { IsFactor target.now.factor }
+    ensures value { result ≡ plus_factor target.now best }
+    ensures over { (values : List (Option Tenths)) (stations : List StationSite)
+        (entries : List Entry) → AreShown values (length stations) entries
+        → IsBest stations (value_in values) target.now.at best
+        → IsPredictionOver stations entries target.now result }
+{
+    match best {
+        None => None,
+        Some(best) => Some(plus(best, target)),
+    }
+}
+
 /// The greater of what two stations say; none is below each value.
-fn greater_of(a: Option<Tenths>, b: Option<Tenths>) -> Option<Tenths>
+pub fn greater_of(a: Option<Tenths>, b: Option<Tenths>) -> Option<Tenths>
     ensures one { (result ≡ a) ⊎ (result ≡ b) }
     ensures first { IfSome a (λ t. IsSomeAnd result (λ r. t.0 ≤ℤ r.0)) }
     ensures second { IfSome b (λ t. IsSomeAnd result (λ r. t.0 ≤ℤ r.0)) }
