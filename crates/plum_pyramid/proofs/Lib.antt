@@ -1,0 +1,10 @@
+pub mod Greatest
+pub mod Runs
+pub mod Holding
+pub mod Growing
+pub mod Renewals
+pub mod Steps
+pub mod Bests
+pub mod Orders
+pub mod Sets
+pub mod Wholes

@@ -1,0 +1,3 @@
+pub mod Pyramid
+pub mod Maxima
+pub mod Cells
