@@ -5,10 +5,12 @@ ghost use Rattle.std.specs.Prelude.{IsSomeAnd};
 ghost use Rattle.plum_base.specs.declared.entry.Entry.{Entry};
 ghost use Rattle.plum_base.specs.Sites.{SitesView};
 ghost use Rattle.plum_geo.specs.Prediction.{IsPredictionOver};
+ghost use Rattle.plum_geo.specs.Shown.{shown_after};
 ghost use Rattle.plum_board.specs.Board.{StandsFor, board_after, new_board};
 
 use plum_base::{Entry, NoMemory, Sites, TargetNo, Tenths};
-use plum_geo::Shown;
+use plum_geo::{entries_are_shown_in_turn, none_or_on_scale, predicted};
+use plum_pyramid::Pyramid;
 use std::alloc::Global;
 use std::marker::Model;
 
@@ -16,7 +18,8 @@ use std::marker::Model;
 #[derive(Drop)]
 pub struct Board {
     sites: Sites,
-    shown: Shown,
+    /// The values that the stations show.
+    pyramid: Pyramid,
     /// It stands still at its end.
     count: u64,
 }
@@ -27,9 +30,14 @@ impl Model for Board {
 
     ghost Value = { BoardView };
 
-    ghost view = { λ b. record { sites = b.sites; values = b.shown; count = b.count } };
+    ghost view = { λ b. record {
+      sites = b.sites;
+      values = b.pyramid.values;
+      count = b.count;
+    } };
 
-    ghost invariant = { λ b. length b.shown ≡ length b.sites.stations };
+    ghost invariant = { λ b. (b.pyramid.stations ≡ b.sites.stations)
+        × (length b.pyramid.values ≡ length b.sites.stations) };
 }
 
 impl Board {
@@ -40,7 +48,7 @@ impl Board {
     {
         Ok(Board {
             sites: sites.copy(alloc)?,
-            shown: Shown::new(alloc, sites.stations().len())?,
+            pyramid: Pyramid::new(alloc, sites)?,
             count: 0,
         })
     }
@@ -54,7 +62,9 @@ impl Board {
             → StandsFor self.old sites entries
             → StandsFor self.new sites (entries ++ entry.now ∷ []) }
     {
-        self.shown.apply(entry);
+        // For the contract: what stations show after an entry more.
+        entries_are_shown_in_turn();
+        show(&mut self.pyramid, self.sites.stations().len(), entry);
         self.count = self.count.saturating_add(1);
     }
 
@@ -67,7 +77,7 @@ impl Board {
     {
         let position = target.0 as usize;
         let target = &self.sites.targets()[position];
-        self.shown.predict(self.sites.stations(), target)
+        predicted(self.pyramid.best(target.at), target)
     }
 
     /// How many entries were applied, or 2^64 - 1.
@@ -75,5 +85,18 @@ impl Board {
         ensures { result ≡ self.now.count }
     {
         self.count
+    }
+}
+
+/// Sets the station of an entry to its value, where the station is one of so many, and the value is
+/// none or on the scale.
+fn show(pyramid: &mut Pyramid, stations: usize, entry: &Entry)
+    requires stations { stations ≡ length pyramid.old.stations }
+    requires count { length pyramid.old.values ≡ stations }
+    ensures values { pyramid.new.values ≡ shown_after pyramid.old.values entry.now }
+    ensures stations { pyramid.new.stations ≡ pyramid.old.stations }
+{
+    if (entry.station.0 as usize) < stations && none_or_on_scale(entry.value) {
+        pyramid.set(entry.station, entry.value);
     }
 }
