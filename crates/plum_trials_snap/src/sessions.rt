@@ -1,6 +1,7 @@
 //! A publisher and its sessions, in one thread.
 
 ghost use Rattle.std.specs.Prelude.{◌≡◌, ◌<◌, ◌≤◌, ◌+◌, ◌^◌, [], length, IfSome};
+ghost use mathlib.Core.List.{IsPrefix};
 
 use crate::given::{entry_of, sites_of};
 use plum_base::{NoMemory, Sites, Tenths};
@@ -33,6 +34,8 @@ fn opened<R: Wait>(rt: &R, alloc: Global, sites: &Sites, doors: &mut Doors) -> O
 /// What is read: the front, and the first answer.
 fn read(session: &mut Session) -> Option<Seen>
     ensures publisher { session.new.publisher ≡ session.old.publisher }
+    ensures front { IfSome result (λ seen. seen.0 ≡ length session.new.seen) }
+    ensures goes_on { IfSome result (λ _. IsPrefix session.old.seen session.new.seen) }
 {
     match session.read() {
         Ok(reading) => {
@@ -41,6 +44,21 @@ fn read(session: &mut Session) -> Option<Seen>
         }
         Err(_) => None,
     }
+}
+
+/// What is read once the session has learned a receipt: all that is published, and no more. Only
+/// clauses of the published board show it.
+fn read_all(publisher: &mut Publisher, session: &mut Session) -> Option<Seen>
+    requires { session.old.publisher ≡ publisher.old.publisher }
+    ensures all { IfSome result (λ _. session.new.seen ≡ publisher.old.published) }
+    ensures front { IfSome result (λ seen. seen.0 ≡ length publisher.old.published) }
+    ensures publisher { publisher.new ≡ publisher.old }
+{
+    session.learn(publisher.receipt());
+    publisher.shows_what_was_seen(session);
+    let seen = read(session)?;
+    publisher.shows_what_was_seen(session);
+    Some(seen)
 }
 
 /// Appends entries of station 0 that show these values.
@@ -149,9 +167,8 @@ fn in_turn<R: Wait>(
     publisher.publish(rt);
     let second = read(&mut other)?;
     one.sees_one_list(&other);
-    one.reads_the_list_of(publisher);
-    one.learn(publisher.receipt());
-    Some((first, second, read(&mut one)?))
+    publisher.shows_what_was_seen(&one);
+    Some((first, second, read_all(publisher, &mut one)?))
 }
 
 #[test]
