@@ -1,9 +1,9 @@
 //! Distances on the grid, squares and discs, what each station shows, and the predictions from it.
 //!
-//! It promises the test of nearness, how a square lies to a disc, the table of what the stations show after whatever entries
-//! were applied to it, the prediction at a target by a scan of all stations, and the laws of the
-//! stations that a scan finds near and of an entry more. It must not know how values come about,
-//! nor who keeps entries.
+//! It promises the test of nearness, how a square lies to a disc, the table of what the stations
+//! show after whatever entries were applied to it, the prediction at a target by a scan of all
+//! stations, and the laws of the stations that a scan finds near and of an entry more. It must not
+//! know how values come about, nor who keeps entries.
 #![tactic(auto)]
 
 mod distance;

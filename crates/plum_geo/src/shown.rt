@@ -4,11 +4,11 @@ ghost use Rattle.std.specs.Prelude.{◌≡◌, ◌<◌, ◌≤ℤ◌, ◌⊎◌,
 ghost use Rattle.std.specs.Prelude.{Option, Some, None, IfSome, IfNone, IsSomeAnd, IfOk, IsTrue};
 ghost use Rattle.plum_base.specs.declared.entry.Entry.{Entry};
 ghost use Rattle.plum_base.specs.declared.numbers.Tenths.{Tenths};
+ghost use Rattle.plum_base.specs.declared.sites.StationSite.{StationSite};
 ghost use Rattle.plum_base.specs.Levels.{IsFactor};
 ghost use Rattle.plum_base.specs.Sites.{IsPlace, AreStations};
 ghost use Rattle.plum_geo.specs.Prediction.{none_or_on_scale, IsOnScale, IsNear, corrected};
 ghost use Rattle.plum_geo.specs.Prediction.{IsBest, plus_factor, IsPredictionOver};
-ghost use Rattle.plum_base.specs.declared.sites.StationSite.{StationSite};
 ghost use Rattle.plum_geo.specs.Corrected.{IsOnCorrectedScale};
 ghost use Rattle.plum_geo.specs.Shown.{value_in, AreShown, shown_after};
 

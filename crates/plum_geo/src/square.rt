@@ -29,7 +29,7 @@ pub enum Place {
 impl Square {
     /// Whether the place lies in the square.
     pub fn holds(self, at: Point) -> bool
-        requires square { IsSquare self }
+        requires { IsSquare self }
         ensures { IsTrue result ↔ IsWithin at self }
     {
         is_along(at.x, self.x, self.side) && is_along(at.y, self.y, self.side)

@@ -20,11 +20,8 @@ holds-requires t c =
     let laid = c.requires.values.laid in
     let same = cell_read layout c.args.here c.index-cell.result.now c.requires.cell
     c.index-cell.ensures in
-    record {
-      square =
-          subst (λ (k : Cell). IsSquare k.square) (sym same)
-          (laid.cells.each c.args.here (omega arith) c.requires.cell).square;
-    }
+    subst (λ (k : Cell). IsSquare k.square) (sym same)
+    (laid.cells.each c.args.here (omega arith) c.requires.cell).square
 
 pub returns-then-not-holds : goal.returns-then-not-holds
 returns-then-not-holds t c =
