@@ -1,5 +1,5 @@
-//! Trials of the machine, of an engine and of a filter: worked rows on the level of one call, with
-//! ample memory.
+//! Trials of the machine, of an engine, of a filter and of a square: worked rows on the level of one
+//! call, with ample memory.
 //!
 //! It promises nothing, and nothing stands on it: each item is a test's alone, so that no crate
 //! below is proved twice for its tests.
@@ -13,3 +13,5 @@ mod filter;
 mod machine;
 #[cfg(test)]
 mod setup;
+#[cfg(test)]
+mod squares;
