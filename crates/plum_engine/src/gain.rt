@@ -6,9 +6,7 @@ ghost use Rattle.plum_filter.specs.Stage.{IsTerm};
 ghost use Rattle.plum_engine.specs.Signal.{signal_of};
 
 use plum_base::Gain;
-
-/// The greatest signal, in filtered units.
-const GREATEST_SIGNAL: i64 = 1 << 30;
+use plum_filter::clamp_term;
 
 /// The signal of a count, clamped: from counts to filtered units.
 pub fn signal(gain: Gain, count: i32) -> i32
@@ -16,6 +14,5 @@ pub fn signal(gain: Gain, count: i32) -> i32
     ensures value { result ≡ signal_of gain count }
     ensures term { IsTerm result }
 {
-    let scaled = (count as i64 * gain.g as i64) >> gain.h;
-    scaled.clamp(-GREATEST_SIGNAL, GREATEST_SIGNAL) as i32
+    clamp_term((count as i64 * gain.g as i64) >> gain.h)
 }

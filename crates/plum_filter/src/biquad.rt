@@ -68,7 +68,7 @@ fn divided(sum: i64, q: u8) -> i64
 }
 
 /// The number cut to the range of terms.
-fn clamp_term(number: i64) -> i32
+pub fn clamp_term(number: i64) -> i32
     ensures value { result ≡ clamped number }
     ensures term { IsTerm result }
 {

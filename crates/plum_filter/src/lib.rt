@@ -9,5 +9,6 @@ mod biquad;
 mod filter;
 mod laws;
 
+pub use biquad::clamp_term;
 pub use filter::Filter;
 pub use laws::{as_long, one_output};

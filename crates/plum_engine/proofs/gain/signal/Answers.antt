@@ -15,7 +15,6 @@ returns-clause-value c =
     let product : FitsSigned w64 (count *ℤ pos g) = product_fits count g narrow (omega arith) in
     let quotient : FitsSigned w64 (int_shr (count *ℤ pos g) c.args.gain.h) =
     quotient_fits _ c.args.gain.h product in
-    let long : FitsSigned w64 c.clamp.result = omega (arith, ints) in
-    let short : FitsSigned w32 c.clamp.result = omega (arith, ints) in
-    let value = simp (factor, to_z-of_z) at c.clamp.ensures.value in
+    let short : FitsSigned w32 c.clamp_term.result = omega (arith, ints) in
+    let value = simp (factor, to_z-of_z) at c.clamp_term.ensures.value in
     simp to_z-of_z (value ∙ ap clamped (int_shr_is (count *ℤ pos g) c.args.gain.h))
