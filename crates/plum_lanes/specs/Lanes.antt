@@ -110,9 +110,9 @@ abbrev pub IfBusy : Offered → Type 0 → Type 0
 IfBusy Sent fact = ⊤
 IfBusy Busy fact = fact
 
--- There is a queue that holds its bound, behind some gathered entries, where both together are a
--- valid history, and what the lane sent is its entries there. So it was when the lane was told to
--- be busy; which queue it was, no statement can name.
+-- There is a queue that holds its bound, behind some gathered entries: both together are a valid
+-- history, and what the lane sent is its entries there. No statement can name what a shared queue
+-- held at a moment, so this says no more than that there is such a one.
 pub record WasFull (opening : Opening) (number : ℕ) (lane : Lane) : Type 0 where
   pub gathered_then : List Entry
   pub queued_then : List Entry
