@@ -4,6 +4,7 @@ use Rattle.std.proofs.lemmas.Result.{err_from_is_err_and}
 use Rattle.plum_host.proofs.Pieces.{appends-more}
 use Rattle.plum_host.specs.declared.host.In.TheVariants.{Capture}
 use Rattle.plum_host.specs.declared.host.To.TheVariants.{Out, Journal}
+use Rattle.plum_host.specs.Frames.{LeavesOtherInputs}
 use Rattle.plum_host.specs.Told.{HostView, Appends}
 use Rattle.plum_text.specs.Texts.{journal_text, out_text}
 use Rattle.plum_replay.specs.Begun.{AppendsNothing, AppendsBegun}
@@ -14,7 +15,7 @@ use Rattle.plum_replay.proofs.Stopping.{stops_between, stops_at_end, opens_quiet
 use Rattle.plum_replay.proofs.Writings.{outputs_differ, appends-nil}
 use Rattle.plum_replay.proofs.replaying.replay.Given as given
 use Rattle.plum_replay.proofs.replaying.replay.Goals as goal
-use Rattle.plum_replay.proofs.replaying.replay.Goals.{After-read_capture}
+use Rattle.plum_replay.proofs.replaying.replay.Goals.{After-read_capture, After-put_segments}
 
 -- nothing is appended before the capture is read whole
 pub returns-in_err-write-clause-in_order : goal.returns-in_err-write-clause-in_order
@@ -173,3 +174,26 @@ returns-clause-texts g c = λ capture told.
           ∙ whole.3;
       few = whole.4;
     }
+
+-- what is read is the capture alone
+left_alone : (g : given.Over) (c : After-put_segments g)
+    → LeavesOtherInputs Capture (g.H.Host.told c.args.host.now)
+    (g.H.Host.told c.put_segments.new.host)
+left_alone g c = λ other different.
+    c.put_segments.ensures.inputs other ∙ c.read_capture.ensures.frame.other_inputs other different
+    ∙ c.write.ensures.frame.inputs other
+
+pub returns-in_err-put_end-clause-other_inputs : goal.returns-in_err-put_end-clause-other_inputs
+returns-in_err-put_end-clause-other_inputs g c =
+    left_alone g (goal.at.returns-in_err-put_end-clause-other_inputs g c).After-put_segments
+
+pub returns-in_err-put_all-clause-other_inputs : goal.returns-in_err-put_all-clause-other_inputs
+returns-in_err-put_all-clause-other_inputs g c = λ other different.
+    c.put_all.ensures.frame.inputs other
+    ∙ left_alone g (goal.at.returns-in_err-put_all-clause-other_inputs g c).After-put_segments other
+    different
+
+pub returns-clause-other_inputs : goal.returns-clause-other_inputs
+returns-clause-other_inputs g c = λ other different.
+    c.put_all.ensures.frame.inputs other
+    ∙ left_alone g (goal.at.returns-clause-other_inputs g c).After-put_segments other different
