@@ -1,5 +1,4 @@
-//! Replays a capture as `plum replay` does, and runs drills as `plum drill` does, with the standard library alone and
-//! nothing proved.
+//! Replays a capture as `plum replay` does, with the standard library alone and nothing proved.
 //!
 //! It is what the proved program is compared with: the same work, and the same texts. It reads the setup and the site
 //! files in the form in which `bench/run` writes them. What it cannot read ends it with the status of such a file; why
@@ -504,23 +503,19 @@ impl Sites {
     }
 }
 
-const STATION_HEADER: &str = "code,x,y,factor";
-const TARGET_HEADER: &str = "name,area,x,y,factor";
-
-fn setup_of(text: &str) -> Result<Setup, Stop> {
-    Setup::read(text).ok_or(Stop::Setup)
+fn read_setup(path: &str) -> Result<Setup, Stop> {
+    let text = fs::read_to_string(path).map_err(Stop::Read)?;
+    Setup::read(&text).ok_or(Stop::Setup)
 }
 
-fn stations_of(text: &str) -> Result<Vec<StationSite>, Stop> {
-    read_rows(text, STATION_HEADER, MOST_STATIONS, station_of).ok_or(Stop::Sites("stations"))
+fn read_stations(path: &str) -> Result<Vec<StationSite>, Stop> {
+    let text = fs::read_to_string(path).map_err(Stop::Read)?;
+    read_rows(&text, "code,x,y,factor", MOST_STATIONS, station_of).ok_or(Stop::Sites("stations"))
 }
 
-fn targets_of(text: &str) -> Result<Vec<TargetSite>, Stop> {
-    read_rows(text, TARGET_HEADER, MOST_TARGETS, target_of).ok_or(Stop::Sites("targets"))
-}
-
-fn read_text(path: &str) -> Result<String, Stop> {
-    fs::read_to_string(path).map_err(Stop::Read)
+fn read_targets(path: &str) -> Result<Vec<TargetSite>, Stop> {
+    let text = fs::read_to_string(path).map_err(Stop::Read)?;
+    read_rows(&text, "name,area,x,y,factor", MOST_TARGETS, target_of).ok_or(Stop::Sites("targets"))
 }
 
 /// Reads a record, length and all. Tells whether it is whole: else the input ended.
@@ -588,7 +583,8 @@ fn decode(sites: &Sites, body: &[u8]) -> Result<Packet, Fault> {
 }
 
 /// Reads a capture to its end. A segment ends at a mark, where it is full, and at the end.
-fn read_capture(sites: &Sites, mut input: impl Read) -> Result<Capture, Stop> {
+fn read_capture(sites: &Sites, path: &str) -> Result<Capture, Stop> {
+    let mut input = BufReader::new(File::open(path).map_err(Stop::Read)?);
     let mut segments = Vec::new();
     let mut segment = Segment::default();
     let mut record = Vec::new();
@@ -993,170 +989,26 @@ impl<'a, J: Write, O: Write> Replay<'a, J, O> {
         Ok(())
     }
 
-    fn end(&mut self, tail: usize) -> io::Result<()> {
+    fn end(mut self, tail: usize) -> io::Result<()> {
         writeln!(self.output, "T {tail}")?;
         writeln!(self.output, "Z {} {}", self.segments, self.counts)?;
         self.journal.flush()?;
         self.output.flush()
     }
-
-    /// Replays a capture to its end.
-    fn run(&mut self, capture: Capture) -> Result<(), Stop> {
-        for segment in capture.segments {
-            self.work(segment).map_err(Stop::Write)?;
-        }
-        self.end(capture.tail).map_err(Stop::Write)
-    }
 }
 
 fn replay(paths: [&str; 5]) -> Result<(), Stop> {
     let [setup, stations, targets, capture, journal] = paths;
-    let setup = setup_of(&read_text(setup)?)?;
-    let sites = Sites::new(
-        stations_of(&read_text(stations)?)?,
-        targets_of(&read_text(targets)?)?,
-    );
+    let setup = read_setup(setup)?;
+    let sites = Sites::new(read_stations(stations)?, read_targets(targets)?);
     let journal = BufWriter::new(File::create(journal).map_err(Stop::Write)?);
     let output = BufWriter::new(io::stdout().lock());
-    let capture = BufReader::new(File::open(capture).map_err(Stop::Read)?);
     let capture = read_capture(&sites, capture)?;
-    Replay::new(&setup, &sites, journal, output).run(capture)
-}
-
-/// The pseudo-random numbers of a drill.
-struct Generator(u64);
-
-impl Generator {
-    fn draw(&mut self) -> u32 {
-        const MULTIPLIER: u64 = 6_364_136_223_846_793_005;
-        const INCREMENT: u64 = 1_442_695_040_888_963_407;
-        self.0 = self.0.wrapping_mul(MULTIPLIER).wrapping_add(INCREMENT);
-        (self.0 >> 32) as u32
+    let mut replay = Replay::new(&setup, &sites, journal, output);
+    for segment in capture.segments {
+        replay.work(segment).map_err(Stop::Write)?;
     }
-
-    /// A component of a second: at most as large as the shaking is then.
-    fn component(&mut self, second: u32) -> i32 {
-        let strength = 100 + 1_000 * second.min(60);
-        (self.draw() % (2 * strength + 1)) as i32 - strength as i32
-    }
-
-    fn sample(&mut self, second: u32) -> Sample {
-        let [x, y, z] = [(); 3].map(|()| self.component(second));
-        Sample { x, y, z }
-    }
-}
-
-/// A drill: its files are made of these numbers.
-struct Drill {
-    seed: u64,
-    stations: u16,
-    seconds: u32,
-}
-
-/// The stages of a drill: b0, b1 and a1, and the rounding.
-const DRILL_STAGES: [(i32, i32, i32, &str); 6] = [
-    (1_048_576, -1_048_576, -1_043_333, "nearest"),
-    (262_144, 0, -786_432, "nearest"),
-    (524_288, 524_288, 0, "floor"),
-    (1_048_576, -1_048_576, -1_043_333, "nearest"),
-    (524_288, 0, -524_288, "nearest"),
-    (1_048_576, 0, 0, "nearest"),
-];
-
-impl Drill {
-    fn of(words: [&str; 3]) -> Option<Drill> {
-        let [seed, stations, seconds] = words.map(|word| word.parse::<u64>().ok());
-        Some(Drill {
-            seed: seed?,
-            stations: stations?.try_into().ok()?,
-            seconds: seconds?.try_into().ok()?,
-        })
-    }
-
-    fn setup(&self) -> String {
-        let mut text = "lanes = 4\nqueue = 256\n\n[gain]\ng = 1\nh = 0\n".to_string();
-        for (b0, b1, a1, round) in DRILL_STAGES {
-            text += &format!("\n[[stage]]\nb0 = {b0}\nb1 = {b1}\nb2 = 0\na1 = {a1}\na2 = 0\n");
-            text += &format!("q = 20\nround = \"{round}\"\n");
-        }
-        let thresholds: String = (6..56).map(|i| format!(", {}", 1_u64 << i)).collect();
-        text += &format!("\n[levels]\nbase = 0\nthresholds = [0{thresholds}]\n");
-        text + "\n[rules]\nraise = \"4\"\ncancel = \"3\"\ncalm = 5\n"
-    }
-
-    fn stations(&self) -> String {
-        let row = |i: u16| {
-            let (x, y) = (4_000 * u32::from(i % 20), 4_000 * u32::from(i / 20));
-            format!("{},{x},{y},{}\n", i + 1, i32::from(i % 5) - 2)
-        };
-        format!("{STATION_HEADER}\n") + &(0..self.stations).map(row).collect::<String>()
-    }
-
-    fn targets() -> String {
-        let row = |j: u16| {
-            let (area, x, y) = (j % 8, 10_000 * u32::from(j % 8), 10_000 * u32::from(j / 8));
-            format!("t{j:02},a{area},{x},{y},{}\n", i32::from(j % 3) - 1)
-        };
-        format!("{TARGET_HEADER}\n") + &(0..64).map(row).collect::<String>()
-    }
-
-    /// Each second a packet of each station, of 100 samples, and a mark.
-    fn capture(&self) -> Vec<u8> {
-        const PACKET_SAMPLES: u16 = 100;
-        let length = (HEADER + SAMPLE * usize::from(PACKET_SAMPLES)) as u16;
-        let mut generator = Generator(self.seed);
-        let mut capture = Vec::new();
-        for second in 0..self.seconds {
-            for station in 0..self.stations {
-                capture.extend(length.to_be_bytes());
-                capture.extend(b"PL\x01\x00");
-                capture.extend((station + 1).to_be_bytes());
-                capture.extend(1_u16.to_be_bytes());
-                capture.extend(second.to_be_bytes());
-                capture.extend(PACKET_SAMPLES.to_be_bytes());
-                for _ in 0..PACKET_SAMPLES {
-                    let Sample { x, y, z } = generator.sample(second);
-                    capture.extend([x, y, z].iter().flat_map(|count| count.to_be_bytes()));
-                }
-            }
-            capture.extend((MARK.len() as u16).to_be_bytes());
-            capture.extend(MARK);
-        }
-        capture
-    }
-
-    /// Replays its files, and tells the totals and what is predicted at the last mark.
-    fn run(&self) -> Result<(), Stop> {
-        let setup = setup_of(&self.setup())?;
-        let sites = Sites::new(
-            stations_of(&self.stations())?,
-            targets_of(&Drill::targets())?,
-        );
-        let capture = read_capture(&sites, self.capture().as_slice())?;
-        let (mut journal, mut output) = (Vec::new(), Vec::new());
-        let mut replay = Replay::new(&setup, &sites, &mut journal, &mut output);
-        replay.run(capture)?;
-        let last = format!("P {} ", replay.segments);
-        let output = String::from_utf8_lossy(&output);
-        self.tell(&output, &last).map_err(Stop::Write)
-    }
-
-    /// Tells the totals, and the predictions, whose lines begin so.
-    fn tell(&self, output: &str, last: &str) -> io::Result<()> {
-        let Drill {
-            seed,
-            stations,
-            seconds,
-        } = self;
-        let totals = output.lines().filter(|line| line.starts_with("Z "));
-        let predicted = output.lines().filter(|line| line.starts_with(last));
-        let mut out = BufWriter::new(io::stdout().lock());
-        writeln!(out, "drill {seed} {stations} {seconds}")?;
-        for line in totals.chain(predicted) {
-            writeln!(out, "{line}")?;
-        }
-        out.flush()
-    }
+    replay.end(capture.tail).map_err(Stop::Write)
 }
 
 fn is_path(word: &str) -> bool {
@@ -1169,10 +1021,6 @@ fn run() -> Result<(), Stop> {
     match words.as_slice() {
         ["replay", paths @ ..] if paths.iter().all(|path| is_path(path)) => {
             replay(paths.try_into().map_err(|_| Stop::Usage)?)
-        }
-        ["drill", seed, stations, seconds] => {
-            let drill = Drill::of([seed, stations, seconds]).ok_or(Stop::Usage)?;
-            drill.run()
         }
         _ => Err(Stop::Usage),
     }
