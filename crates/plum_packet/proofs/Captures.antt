@@ -9,9 +9,9 @@ use Rattle.byteorder.specs.Endian.{big_number}
 use Rattle.byteorder.specs.Numbers.{big_from-take}
 use Rattle.plum_packet.specs.Capture.{record_of, IsBody, IsCapture, AreBytes, HasRecord}
 use Rattle.plum_packet.specs.Reading.{HasMoreRecords}
-use Rattle.plum_packet.specs.Record.{record_end, body_in, IsRecord}
+use Rattle.plum_packet.specs.Record.{record_end}
 use Rattle.plum_packet.specs.Laws.{EachIsCapture, OneCapture, TailIsShort, RowGoesOn, RowsGoOn}
-use Rattle.plum_packet.proofs.Spelling.{no_record, whole_record, same_record}
+use Rattle.plum_packet.proofs.Spelling.{body_in, IsRecord, no_record, whole_record, same_record}
 
 -- each of the bytes is below 256, and so is 0 past them
 pub byte : (bytes : List ℕ) (i : ℕ) → AreBytes bytes → get_or bytes i 0 < 256
@@ -31,18 +31,16 @@ AreBytes-append [] rest are = are
 AreBytes-append (b ∷ front) rest are = AreBytes-append front rest are.1
 
 -- the front as long as its length says is a record
-first_record : (bytes : List ℕ) → AreBytes bytes → record_end bytes ≤ length bytes
-    → IsRecord (take (record_end bytes) bytes)
-first_record bytes are fits =
+first_record : (bytes : List ℕ) → get_or bytes 0 0 < 256 → get_or bytes 1 0 < 256
+    → record_end bytes ≤ length bytes → IsRecord (take (record_end bytes) bytes)
+first_record bytes high low fits =
     let end = record_end bytes in
     let front = take end bytes in
     let number : big_number 2 front ≡ big_number 2 bytes =
     big_from-take 0 2 end bytes (omega arith) in
     let long : length front ≡ end = length-take-le end bytes fits in
-    let first : get_or front 0 0 < 256 =
-    rw (get_or-take end bytes 0 0 (omega arith)) (byte bytes 0 are) in
-    let second : get_or front 1 0 < 256 =
-    rw (get_or-take end bytes 1 0 (omega arith)) (byte bytes 1 are) in
+    let first : get_or front 0 0 < 256 = rw (get_or-take end bytes 0 0 (omega arith)) high in
+    let second : get_or front 1 0 < 256 = rw (get_or-take end bytes 1 0 (omega arith)) low in
     whole_record front first second (omega (arith, long, number))
 
 -- the record at the start, and what follows
@@ -51,6 +49,14 @@ split : (bytes : List ℕ) → IsRecord (take (record_end bytes) bytes)
 split bytes whole =
     sym (take-append-drop (record_end bytes) bytes)
     ∙ ap (λ (l : List ℕ). l ++ drop (record_end bytes) bytes) whole.spelled
+
+-- Where as many bytes stand as the length says, there is a record.
+pub has_record : (bytes : List ℕ) → get_or bytes 0 0 < 256 → get_or bytes 1 0 < 256
+    → record_end bytes ≤ length bytes → HasRecord bytes
+has_record bytes high low fits =
+    let end = record_end bytes in
+    let whole = first_record bytes high low fits in
+    (body_in (take end bytes), drop end bytes, whole.fits, split bytes whole)
 
 -- These bytes are a capture.
 abbrev HasCapture : List ℕ → Type 0
@@ -91,7 +97,7 @@ capture_within (suc n) bytes bound are = elim (cases_lt (length bytes) (record_e
   | inl short ↦ tail_alone bytes short
   | inr fits ↦
       let end = record_end bytes in
-      let whole = first_record bytes are fits in
+      let whole = first_record bytes (byte bytes 0 are) (byte bytes 1 are) fits in
       let fewer : length (drop end bytes) ≤ n = omega (arith, length-drop end bytes) in
       let later = capture_within n (drop end bytes) fewer (AreBytes-drop end bytes are) in
       before bytes (drop end bytes) (body_in (take end bytes)) (split bytes whole) whole.fits later
@@ -211,8 +217,7 @@ tail bytes bodies rest are capture =
     elim (cases_lt (length rest) (record_end rest)) [
       | inl short ↦ omega (arith, byte rest 0 bytes_of_tail, byte rest 1 bytes_of_tail)
       | inr fits ↦
-          let end = record_end rest in
-          let whole = first_record rest bytes_of_tail fits in
-          absurd (capture.no_more
-          (body_in (take end rest), drop end rest, whole.fits, split rest whole))
+          let high = byte rest 0 bytes_of_tail in
+          let low = byte rest 1 bytes_of_tail in
+          absurd (capture.no_more (has_record rest high low fits))
     ]

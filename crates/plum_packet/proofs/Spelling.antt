@@ -1,12 +1,20 @@
 -- Records as bytes.
-use Rattle.std.proofs.Common.{◌≡◌, inl, inr, ℕ, ◌+◌, ◌*◌, ◌/◌, ◌%◌, ◌<◌, ◌≤◌, List, [], ◌∷◌, ◌++◌}
-use Rattle.std.proofs.Common.{length, get_or, take, drop, refl, sym, ap, ◌∙◌, arith, length-append}
-use Rattle.std.proofs.lemmas.Bool.{cases_lt}
-use Rattle.std.proofs.lemmas.List.{take_at, drop_at}
+use Rattle.std.proofs.Common.{◌≡◌, ℕ, ◌+◌, ◌-◌, ◌*◌, ◌/◌, ◌%◌, ◌<◌, ◌≤◌, List, [], ◌∷◌}
+use Rattle.std.proofs.Common.{◌++◌, length, get_or, take, drop, refl, sym, ap, ◌∙◌, arith, length-append}
+use Rattle.std.proofs.lemmas.List.{take_at, drop_at, drop-drop}
 use Rattle.byteorder.specs.Endian.{big_bytes, big_number}
 use Rattle.byteorder.specs.Numbers.{big_from-append, big_number-reads_back}
 use Rattle.plum_packet.specs.Capture.{record_of, IsBody, HasRecord}
-use Rattle.plum_packet.specs.Record.{record_end, IsRecord}
+use Rattle.plum_packet.specs.Record.{record_end}
+
+-- what stands behind the length
+abbrev pub body_in : List ℕ → List ℕ
+body_in bytes = drop 2 bytes
+
+-- The bytes are one record.
+pub record IsRecord (bytes : List ℕ) : Type 0 where
+  pub spelled : bytes ≡ record_of (body_in bytes)
+  pub fits : IsBody (body_in bytes)
 
 -- The length at the start of a record is that of its body.
 pub big_number-record : (body more : List ℕ) → IsBody body
@@ -43,33 +51,26 @@ whole_record (a ∷ b ∷ body) la lb is =
     ap (λ (n : ℕ). big_bytes 2 n) long ∙ big_bytes-two a b la lb in
     record { spelled = sym (ap (λ (l : List ℕ). l ++ body) said); fits = omega arith }
 
-module _ (front : List ℕ) (end : ℕ) (short : length front < 2 → end ≡ 2)
-    (long : 2 ≤ length front → end ≡ record_end front) where
-  -- Bytes that come up to where the next ones end are a record.
-  pub IsRecord-up_to : ((k : ℕ) → k < length front → get_or front k 0 < 256)
-      → length front ≡ end → IsRecord front
-  IsRecord-up_to bytes there = elim (cases_lt (length front) 2) [
-    | inl before ↦ absurd (omega (arith, short before))
-    | inr behind ↦
-        let is : length front ≡ record_end front = omega (arith, long behind) in
-        whole_record front (bytes 0 (omega arith)) (bytes 1 (omega arith)) is
-  ]
+module _ (bytes : List ℕ) (has : HasRecord bytes) where
+  said : big_number 2 bytes ≡ length has.0
+  said = ap (big_number 2) has.3 ∙ big_number-record has.0 has.1 has.2
 
-  -- Bytes within a record that do not come up to there are no record.
-  pub missing_of_record : length front ≤ record_end front → (length front ≡ end → ⊥)
-      → ¬ HasRecord front
-  missing_of_record within missing = elim (cases_lt (length front) 2) [
-    | inl before ↦ no_record front (omega arith)
-    | inr behind ↦ no_record front (omega (arith, long behind))
-  ]
+  -- The body of the record at the start stands behind its length.
+  pub body_of_first : take (record_end bytes - 2) (drop 2 bytes) ≡ has.0
+  body_of_first =
+      let count : record_end bytes - 2 ≡ length has.0 = omega (arith, said) in
+      ap (λ n. take n (drop 2 bytes)) count
+      ∙ ap (λ (l : List ℕ). take (length has.0) (drop 2 l)) has.3
+      ∙ take_at has.0 has.1 (length has.0) refl
 
-  -- No more bytes than those stay within the record.
-  pub within_record : (piece : List ℕ) (more : ℕ) → length front + more ≤ end
-      → length front + more ≤ record_end (front ++ piece)
-  within_record piece more within = elim (cases_lt (length front) 2) [
-    | inl before ↦ omega (arith, short before)
-    | inr behind ↦ omega (arith, long behind, big_from-append 2 front piece behind)
-  ]
+  -- What follows it stands behind its end.
+  pub behind_first : drop (record_end bytes) bytes ≡ has.1
+  behind_first =
+      let end : record_end bytes ≡ 2 + length has.0 = omega (arith, said) in
+      ap (λ n. drop n bytes) end
+      ∙ sym (drop-drop (length has.0) 2 bytes)
+      ∙ ap (λ (l : List ℕ). drop (length has.0) (drop 2 l)) has.3
+      ∙ drop_at has.0 has.1 (length has.0) refl
 
 -- Two records at the start of the same bytes are one.
 pub same_record : (a b x y : List ℕ) → IsBody a → IsBody b → record_of a ++ x ≡ record_of b ++ y

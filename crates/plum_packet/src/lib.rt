@@ -6,10 +6,12 @@
 //! samples mean; which packets are kept it takes from plum_seq.
 #![tactic(auto)]
 
+mod block;
 mod body;
 mod capture;
 mod counts;
 mod encoding;
+mod last_body;
 mod record;
 mod records;
 mod segment;

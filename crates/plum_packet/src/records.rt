@@ -1,21 +1,21 @@
 //! A reader of records.
 
-ghost use Rattle.std.specs.Prelude.{◌≡◌, ◌↔◌, ℕ, ◌+◌, ◌≤◌, List, [], length, IsTrue, Some, None};
+ghost use Rattle.std.specs.Prelude.{◌≡◌, ◌↔◌, ℕ, ◌+◌, ◌≤◌, ◌++◌, List, [], length, IsTrue};
+ghost use Rattle.std.specs.Prelude.{Some, None};
 ghost use Rattle.std.specs.Prelude.{IfOk, OnOk, IfErr, IfSome, IfNone, OnErr, IsErrOf};
 ghost use Rattle.plum_host.specs.declared.host.In.TheVariants.{Capture};
 ghost use Rattle.plum_host.specs.Faults.{HasRisen};
 ghost use Rattle.plum_host.specs.Frames.{OnlyReads};
 ghost use Rattle.plum_packet.specs.Capture.{LONGEST_BODY};
 ghost use Rattle.plum_packet.specs.declared.records.Progress.TheVariants.{Open, Ended, Over};
-ghost use Rattle.plum_packet.specs.Capture.{mark_body, HasRecord};
-ghost use Rattle.plum_packet.specs.Record.{body_in, IsRecord};
+ghost use Rattle.plum_packet.specs.Capture.{mark_body, record_of, HasRecord, IsBody};
 
-use crate::record::Record;
+use crate::block::Block;
+use crate::last_body::LastBody;
 use plum_base::NoMemory;
 use plum_host::{Failed, Host};
 use std::alloc::Global;
 use std::marker::Model;
-use std::mem;
 
 /// A record that was read. Its body stands in the reader.
 #[derive(Clone, Copy, Debug, PartialEq, Eq)]
@@ -47,21 +47,19 @@ pub const MOST_RECORDS: u32 = 4_294_967_294;
 /// The body of a mark.
 const MARK: &[u8] = b"MK";
 
-/// A reader of the records of a capture, in whatever pieces the host gives it.
+/// A reader of the records of a capture. It reads in blocks, in whatever pieces the host gives
+/// them, so that a record may stand in two.
 #[derive(Drop)]
 pub struct Records {
     limit: u32,
     given: u32,
     progress: Progress,
-    /// The last record given, empty before the first.
-    last: Record,
-    /// What was taken of the next record.
-    next: Record,
+    last: LastBody,
+    ahead: Block,
 }
 
 impl Model for Records {
     ghost use Rattle.std.specs.Prelude.{◌≤◌};
-    ghost use Rattle.plum_packet.specs.Record.{body_in};
     ghost use Rattle.plum_packet.specs.Records.{RecordsView};
 
     ghost Value = { RecordsView };
@@ -69,8 +67,8 @@ impl Model for Records {
     ghost view = { λ r. record {
       limit = r.limit;
       given = r.given;
-      last = body_in r.last;
-      ahead = r.next;
+      last = r.last;
+      ahead = r.ahead;
       progress = r.progress;
     } };
 
@@ -92,8 +90,8 @@ impl Records {
             limit,
             given: 0,
             progress: Progress::Open,
-            last: Record::new(alloc)?,
-            next: Record::new(alloc)?,
+            last: LastBody::new(alloc)?,
+            ahead: Block::new(alloc)?,
         })
     }
 
@@ -154,7 +152,7 @@ impl Records {
         match self.progress {
             Progress::Ended => Ok(None),
             Progress::Over => Err(RecordsFault::Limit),
-            Progress::Open => match self.next.complete(host) {
+            Progress::Open => match self.ahead.complete(host) {
                 Ok(true) => Ok(Some(self.give()?)),
                 Ok(false) => {
                     self.progress = Progress::Ended;
@@ -165,15 +163,18 @@ impl Records {
         }
     }
 
-    /// Gives the record ahead, which is whole, where another one may be given.
+    /// Gives the first record ahead, which is whole, where another one may be given.
     fn give(&mut self) -> Result<Body, RecordsFault>
-        requires { IsRecord self.old.ahead }
+        requires { HasRecord self.old.ahead }
         ensures number { IfOk result (λ body. body.number ≡ self.old.given + 1) }
         ensures mark { IfOk result (λ body. IsTrue body.mark ↔ (self.new.last ≡ mark_body)) }
+        ensures first { OnOk result
+            (self.old.ahead ≡ record_of self.new.last ++ self.new.ahead) }
+        ensures body { OnOk result (IsBody self.new.last) }
         ensures given { OnOk result (self.new ≡ record self.old {
           given = self.old.given + 1;
-          last = body_in self.old.ahead;
-          ahead = [];
+          last = self.new.last;
+          ahead = self.new.ahead;
         }) }
         ensures within { OnOk result (self.new.given ≤ self.new.limit) }
         ensures limit { IfErr result (λ fault. (fault ≡ RecordsFault.Limit)
@@ -185,8 +186,7 @@ impl Records {
             return Err(RecordsFault::Limit);
         }
         self.given += 1;
-        mem::swap(&mut self.last, &mut self.next);
-        self.next.clear();
+        self.ahead.give(&mut self.last);
         Ok(Body {
             number: self.given,
             mark: self.bytes() == MARK,
@@ -198,7 +198,7 @@ impl Records {
         ensures value { result.now ≡ self.now.last }
         ensures bound { length result.now ≤ LONGEST_BODY }
     {
-        self.last.body()
+        self.last.as_slice()
     }
 
     /// Whether the end of the input was met.
@@ -213,7 +213,7 @@ impl Records {
         ensures { result ≡ tail_of self.now }
     {
         match self.progress {
-            Progress::Ended => self.next.taken() as u32,
+            Progress::Ended => self.ahead.count() as u32,
             Progress::Open | Progress::Over => 0,
         }
     }

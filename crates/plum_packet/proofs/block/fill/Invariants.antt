@@ -1,18 +1,16 @@
-use Rattle.std.proofs.Common.{◌≡◌, ℕ, ◌-◌, ◌<◌, ◌≤◌, get_or, take}
+use Rattle.std.proofs.Common.{◌≡◌, ◌-◌, ◌≤◌, take}
 use Rattle.plum_host.specs.declared.host.In.TheVariants.{Capture}
 use Rattle.plum_host.specs.Frames.{OnlyReads}
 use Rattle.plum_packet.specs.Capture.{LONGEST_RECORD}
-use Rattle.plum_packet.specs.Record.{record_end, MovesFront}
-use Rattle.plum_packet.proofs.record.fill.Given as goal
+use Rattle.plum_packet.specs.Record.{MovesFront}
+use Rattle.plum_packet.proofs.block.fill.Given as goal
 
 abbrev pub invariant-reads : goal.invariant-reads
 invariant-reads g l =
     let before = g.H.Host.told l.fn.host in
     let now = g.H.Host.told l.host in
     record {
-      bytes : (k : ℕ) → get_or l.buffer k 0 < 256;
       filled : l.filled ≤ LONGEST_RECORD;
-      within : l.filled ≤ record_end (take l.filled l.buffer);
       taken : MovesFront (take l.fn.filled l.fn.buffer) (before.left Capture)
           (take l.filled l.buffer) (now.left Capture);
       no_fault : now.read_faults ≡ before.read_faults;
