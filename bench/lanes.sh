@@ -15,6 +15,7 @@ crate=$to/crates/plum_trials_lanes
 rm -rf "$to/crates" "$to/crates.txt"
 mkdir -p "$to/crates"
 for name in plum_base plum_seq plum_filter plum_level plum_engine plum_geo plum_core plum_lanes plum_trials_lanes; do
+    # With what was proved there, which is then not proved again.
     cp -a "$top/crates/$name" "$to/crates/"
     grep "^$name:" "$top/crates.txt" >>"$to/crates.txt"
 done
@@ -114,10 +115,10 @@ use Rattle.plum_trials_lanes.specs.AtWork.{IsOpen}
 use Rattle.plum_trials_lanes.proofs.by_turns.Given as goal
 
 abbrev pub invariant-loop-n : goal.invariant-loop-n
-invariant-loop-n l = IsOpen l.opened.stations l.opened.lanes.items l.opened.gather
+invariant-loop-n g l = IsOpen l.opened.stations l.opened.lanes.items l.opened.gather
 
 abbrev pub invariant-loop-station : goal.invariant-loop-station
-invariant-loop-station l = IsOpen l.opened.stations l.opened.lanes.items l.opened.gather
+invariant-loop-station g l = IsOpen l.opened.stations l.opened.lanes.items l.opened.gather
 ANTT
 
 cd "$crate"

@@ -13,10 +13,8 @@ program=$2
 mkdir -p "$folder/crates/predictions/src"
 mkdir -p "$folder/crates/predictions/proofs/sets" "$folder/crates/predictions/proofs/time_of_sets"
 for name in plum_base plum_geo plum_pyramid; do
-    mkdir "$folder/crates/$name"
-    for part in src specs proofs; do
-        cp -R "$top/crates/$name/$part" "$folder/crates/$name/"
-    done
+    # With what was proved there, which is then not proved again.
+    cp -a "$top/crates/$name" "$folder/crates/"
     grep "^$name:" "$top/crates.txt" >>"$folder/crates.txt"
 done
 echo 'predictions: plum_base plum_geo plum_pyramid' >>"$folder/crates.txt"

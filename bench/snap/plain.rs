@@ -146,7 +146,9 @@ fn main() {
         "publishes" => Beside::Publishes,
         _ => panic!("{beside}"),
     };
-    let (board, ended) = (RwLock::new(Board::new()), AtomicBool::new(false));
+    let mut first = Board::new();
+    (0..STATIONS as u32).for_each(|n| first.apply(&entry_at(n)));
+    let (board, ended) = (RwLock::new(first), AtomicBool::new(false));
     let together = Barrier::new(sessions as usize);
     let (published, read) = thread::scope(|scope| {
         let beside = scope.spawn(|| match beside {
