@@ -9,11 +9,6 @@ use Rattle.plum_alert.specs.declared.desk.Standing.TheVariants.{Nothing, AlertAt
 use Rattle.plum_alert.specs.Readings.{reaches}
 use Rattle.plum_alert.specs.Alerts.{standing, class_before, calm_in_a_row, alerts_of}
 
--- What a desk asks of its rules: that what raises an alert does not cancel it, and that some
--- reading must be calm.
-abbrev pub AreDeskRules : Rules → Type 0
-AreDeskRules rules = (rank_of rules.cancel ≤ rank_of rules.raise) × (1 ≤ rules.calm)
-
 -- what a desk shows: its rules, and what stands
 pub record DeskView : Type 0 where
   pub rules : Rules

@@ -3,9 +3,10 @@
 ghost use Rattle.std.specs.Prelude.{◌≡◌, ◌+◌, ◌<◌, ◌≤◌, ◌&&◌, if◌then◌else◌, List, [], ◌∷◌, ◌++◌};
 ghost use Rattle.plum_base.specs.declared.answers.Reading.{Reading};
 ghost use Rattle.plum_base.specs.declared.rules.Rules.{Rules};
+ghost use Rattle.plum_base.specs.Setup.{AreDeskRules};
 ghost use Rattle.plum_alert.specs.Alerts.{alerts_of};
 ghost use Rattle.plum_alert.specs.Readings.{class_of_reading, is_below, reaches};
-ghost use Rattle.plum_alert.specs.Desk.{AreDeskRules, StandsFor, Tells};
+ghost use Rattle.plum_alert.specs.Desk.{StandsFor, Tells};
 
 use crate::readings::{above, class_of_reading, is_below, reaches};
 use plum_base::{Alert, Class, Reading, Rules};
@@ -28,7 +29,8 @@ pub struct Desk {
 }
 
 impl Model for Desk {
-    ghost use Rattle.plum_alert.specs.Desk.{DeskView, AreDeskRules, IsWithin};
+    ghost use Rattle.plum_base.specs.Setup.{AreDeskRules};
+    ghost use Rattle.plum_alert.specs.Desk.{DeskView, IsWithin};
 
     ghost Value = { DeskView };
 

@@ -1,3 +1,4 @@
 pub mod Distinct
 pub mod Areas
 pub mod ByCode
+pub mod ByNumber

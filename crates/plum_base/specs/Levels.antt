@@ -1,5 +1,7 @@
 -- The threshold table (the project's own; the tenths it cuts are those of the JMA scale).
 use Rattle.std.specs.Prelude.{◌≡◌, ◌≢◌, ℕ, ◌-◌, ◌*◌, ◌^◌, ◌<◌, ◌≤◌, List, [], length, slice_index}
+use Rattle.std.specs.Prelude.{Bool, ◌==◌, nat_le, zip, drop, Option}
+use Rattle.std.specs.List.{position_from}
 use Rattle.plum_base.specs.declared.numbers.Tenths.{Tenths}
 use Rattle.plum_base.specs.declared.levels.LevelFault.{LevelFault}
 use Rattle.plum_base.specs.declared.levels.LevelFault.TheVariants as faults
@@ -30,9 +32,17 @@ IsFactor t = IsUpTo GREATEST_FACTOR t.0
 abbrev pub StartsAtZero : List ℕ → Type 0
 StartsAtZero ts = (0 < length ts) × (slice_index ts 0 ≡ 0)
 
+-- the same as a test, where there is a first entry
+abbrev pub starts_at_zero : List ℕ → Bool
+starts_at_zero ts = slice_index ts 0 == 0
+
 -- each of the first n entries is greater than its predecessor
 abbrev pub RisesUpTo : List ℕ → ℕ → Type 0
 RisesUpTo ts n = (i : ℕ) → 0 < i → i < n → slice_index ts (i - 1) < slice_index ts i
+
+-- the position, from 0, of the first entry that is not greater than its predecessor
+abbrev pub first_not_rising : List ℕ → Option ℕ
+first_not_rising ts = position_from (λ (p : ℕ × ℕ). nat_le p.1 p.0) 1 (zip ts (drop 1 ts))
 
 -- none of the first n entries is above what three components can give
 abbrev pub IsWithinUpTo : List ℕ → ℕ → Type 0

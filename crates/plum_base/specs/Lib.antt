@@ -7,3 +7,5 @@ pub mod Lane
 pub mod Sites
 pub mod Packet
 pub mod Counts
+pub mod Counting
+pub mod Note

@@ -5,8 +5,12 @@ use Rattle.std.specs.Prelude.{◌≡◌, ℕ, ◌≤◌, ◌⊎◌, List, length
 abbrev pub IsNameByte : ℕ → Type 0
 IsNameByte b = ((65 ≤ b) × (b ≤ 90)) ⊎ ((97 ≤ b) × (b ≤ 122)) ⊎ ((48 ≤ b) × (b ≤ 57)) ⊎ (b ≡ 95)
 
--- 1 to 16 such bytes
+-- the most bytes of a name
+abbrev pub LONGEST_NAME : ℕ
+LONGEST_NAME = 16
+
+-- one such byte or more, and not too many
 pub record IsName (bytes : List ℕ) : Type 0 where
   pub some : 1 ≤ length bytes
-  pub few : length bytes ≤ 16
+  pub few : length bytes ≤ LONGEST_NAME
   pub each : All IsNameByte bytes

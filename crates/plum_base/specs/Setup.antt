@@ -1,9 +1,10 @@
 -- The ranges of a setup's numbers (the project's own).
-use Rattle.std.specs.Prelude.{ℕ, ◌^◌, ◌≤◌}
+use Rattle.std.specs.Prelude.{ℕ, ◌^◌, ◌≤◌, Bool, nat_le}
 use Rattle.plum_base.specs.declared.bounds.Bounds.{Bounds}
 use Rattle.plum_base.specs.declared.rules.Class.{Class}
 use Rattle.plum_base.specs.declared.rules.Class.TheVariants.{C0, C1, C2, C3, C4, C5Lower, C5Upper}
 use Rattle.plum_base.specs.declared.rules.Class.TheVariants.{C6Lower, C6Upper, C7}
+use Rattle.plum_base.specs.declared.rules.Rules.{Rules}
 use Rattle.plum_base.specs.Bounds.{IsWithin}
 
 -- the rank of a class on the JMA scale, from the weakest
@@ -43,10 +44,22 @@ QUEUE = record { low = 1; high = 65536 }
 abbrev pub IsGain : ℕ → ℕ → Type 0
 IsGain g h = (GAIN_G.low ≤ g) × (g ≤ GAIN_G.high) × (h ≤ GAIN_H.high)
 
--- The cancel class is not above the raise class, and the calm readings are within their bounds.
-abbrev pub AreRules : Class → Class → ℕ → Type 0
-AreRules raise cancel calm =
-    (rank_of cancel ≤ rank_of raise) × (CALM.low ≤ calm) × (calm ≤ CALM.high)
+-- A cancel class is not above its raise class.
+abbrev pub IsCancelClass : Class → Class → Type 0
+IsCancelClass raise cancel = rank_of cancel ≤ rank_of raise
+
+-- the same as a test
+abbrev pub is_cancel_class : Class → Class → Bool
+is_cancel_class raise cancel = nat_le (rank_of cancel) (rank_of raise)
+
+-- What a desk asks of its rules: that what raises an alert does not cancel it, and that some
+-- reading must be calm.
+abbrev pub AreDeskRules : Rules → Type 0
+AreDeskRules rules = IsCancelClass rules.raise rules.cancel × (CALM.low ≤ rules.calm)
+
+-- They are so, and the calm readings are within their bounds.
+abbrev pub AreRules : Rules → Type 0
+AreRules rules = AreDeskRules rules × (rules.calm ≤ CALM.high)
 
 -- There may be so many lanes.
 abbrev pub IsLaneCount : ℕ → Type 0

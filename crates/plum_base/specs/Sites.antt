@@ -7,6 +7,7 @@ use Rattle.std.specs.Str.{bytes_eq}
 use Rattle.plum_base.specs.declared.numbers.AreaNo.{AreaNo}
 use Rattle.plum_base.specs.declared.numbers.Point.{Point}
 use Rattle.plum_base.specs.declared.numbers.StationNo.{StationNo}
+use Rattle.plum_base.specs.declared.numbers.TargetNo.{TargetNo}
 use Rattle.plum_base.specs.declared.sites.StationSite.{StationSite}
 use Rattle.plum_base.specs.declared.sites.TargetSite.{TargetSite}
 use Rattle.plum_base.specs.Levels.{IsFactor}
@@ -67,6 +68,10 @@ NewAreasComeLast = (targets : List TargetSite) (t : TargetSite)
 -- the targets of an area, in file order
 abbrev pub targets_of : List ℕ → List TargetSite → List TargetSite
 targets_of area targets = filter (λ t. bytes_eq t.area area) targets
+
+-- These are the numbers of those targets, one for one.
+abbrev pub AreNumbersOf : List TargetSite → List TargetNo → List TargetSite → Type 0
+AreNumbersOf targets numbers those = map (λ n. slice_get targets n.0) numbers ≡ map Some those
 
 -- No two stations have one code.
 abbrev pub AreCodesDistinct : List StationSite → Type 0

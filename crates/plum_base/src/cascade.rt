@@ -48,7 +48,7 @@ pub enum CascadeFault {
 /// One to eight stages with each number in its range. Contracts see the list of them.
 #[derive(Debug, Drop)]
 pub struct Cascade {
-    stages: ArrayVec<Stage, 8>,
+    stages: ArrayVec<Stage, MOST_STAGES>,
 }
 
 impl Model for Cascade {
@@ -98,7 +98,7 @@ fn first_out_of_range(stages: &[Stage]) -> Option<usize>
 
 impl Cascade {
     /// The cascade of these stages, in the order in which a sample passes them.
-    pub fn new(stages: ArrayVec<Stage, 8>) -> Result<Cascade, CascadeFault>
+    pub fn new(stages: ArrayVec<Stage, MOST_STAGES>) -> Result<Cascade, CascadeFault>
         ensures ok { IfOk result (λ c. (c ≡ stages.items) × IsCascade stages.items) }
         ensures fault { IfErr result (IsFirstCascadeFault stages.items) }
     {

@@ -31,7 +31,7 @@ pub enum LevelFault {
 /// begin.
 #[derive(Debug, Drop)]
 pub struct Levels {
-    thresholds: ArrayVec<u64, 128>,
+    thresholds: ArrayVec<u64, MOST_LEVELS>,
     base: Tenths,
 }
 
@@ -80,7 +80,7 @@ fn first_above(thresholds: &[u64]) -> Option<usize>
 
 impl Levels {
     /// The table of these thresholds, where level i stands for base + i tenths.
-    pub fn new(thresholds: ArrayVec<u64, 128>, base: Tenths) -> Result<Levels, LevelFault>
+    pub fn new(thresholds: ArrayVec<u64, MOST_LEVELS>, base: Tenths) -> Result<Levels, LevelFault>
         ensures ok { IfOk result (λ l. (l ≡ record { thresholds = thresholds.items; base = base })
             × IsLevelTable l) }
         ensures fault { IfErr result (IsFirstLevelFault

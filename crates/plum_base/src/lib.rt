@@ -36,8 +36,8 @@ pub use lane::{Offered, Took, lane_of};
 pub use laws::areas_come_in_order;
 pub use levels::{GREATEST_AMPLITUDE, LevelFault, Levels, MOST_LEVELS};
 pub use memory::{NoMemory, Shut};
-pub use name::Name;
-pub use note::{Note, Notes};
+pub use name::{LONGEST_NAME, Name};
+pub use note::{Note, Notes, note_of};
 pub use numbers::{
     AreaNo, GREATEST_FACTOR, GRID_END, Key, LaneNo, Point, StationNo, TargetNo, Tenths,
 };

@@ -6,10 +6,13 @@ ghost use Rattle.plum_base.specs.Name.{IsNameByte, IsName};
 use arrayvec::ArrayVec;
 use std::marker::Model;
 
+/// The most bytes of a name.
+pub const LONGEST_NAME: usize = 16;
+
 /// A name: 1 to 16 bytes, each a letter, a digit or `_`. Contracts see the list of its bytes.
 #[derive(Debug, Drop, PartialEq, Eq)]
 pub struct Name {
-    bytes: ArrayVec<u8, 16>,
+    bytes: ArrayVec<u8, LONGEST_NAME>,
 }
 
 impl Model for Name {

@@ -1,7 +1,9 @@
 //! What the journal tells of a kept packet.
 
 ghost use Rattle.std.specs.Prelude.{◌≡◌, [], ◌∷◌, ◌++◌, OnOk, OnErr, IfOk};
+ghost use Rattle.plum_base.specs.Note.{note_of};
 
+use crate::entry::Entry;
 use crate::memory::NoMemory;
 use crate::numbers::{Key, StationNo, Tenths};
 use std::alloc::Global;
@@ -16,6 +18,18 @@ pub struct Note {
     pub fresh: bool,
     /// The station's intensity after it, or none with fewer than 30 samples since the last gap.
     pub value: Option<Tenths>,
+}
+
+/// What the journal tells of an entry.
+pub fn note_of(entry: &Entry) -> Note
+    ensures { result ≡ note_of entry.now }
+{
+    Note {
+        station: entry.station,
+        key: entry.key,
+        fresh: entry.fresh,
+        value: entry.value,
+    }
 }
 
 /// Notes, in the order of the journal. Contracts see the list of them.

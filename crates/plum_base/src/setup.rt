@@ -47,7 +47,7 @@ pub struct Setup {
     pub lanes: u16,
     pub queue: u32,
     pub ghost gain_in_range: { IsGain gain.g gain.h },
-    pub ghost rules_in_range: { AreRules rules.raise rules.cancel rules.calm },
+    pub ghost rules_in_range: { AreRules rules },
     pub ghost lanes_in_range: { IsLaneCount lanes },
     pub ghost queue_in_range: { IsQueueBound queue },
 }

@@ -5,8 +5,7 @@ use Rattle.std.proofs.lemmas.Bool.Decides.{nat_tests}
 use native.Mathlib.Numerals.{unary_clauses}
 use Rattle.std.specs.Prelude.{slice_index, nat_le, zip, Option}
 use Rattle.std.specs.List.{position_from}
-use Rattle.plum_base.specs.Levels.{RisesUpTo}
-use Rattle.plum_table.specs.Levels.{first_not_rising}
+use Rattle.plum_base.specs.Levels.{RisesUpTo, first_not_rising}
 
 -- the position of the first that is not greater than the one before it, behind t, where n is that
 -- of the first

@@ -9,7 +9,7 @@ use Rattle.plum_base.specs.declared.cascade.Rounding.TheVariants.{Floor, Nearest
 use Rattle.toml.specs.Data.{Data, Members, get_member, as_integer, as_str, as_table}
 use Rattle.plum_base.specs.declared.rules.Class.{Class}
 use Rattle.plum_base.specs.Cascade.{GREATEST_COEFFICIENT, STAGE_Q, MOST_STAGES}
-use Rattle.plum_base.specs.Levels.{MOST_LEVELS, GREATEST_FACTOR}
+use Rattle.plum_base.specs.Levels.{MOST_LEVELS, GREATEST_FACTOR, first_not_rising}
 use Rattle.plum_base.specs.Setup.{CALM, GAIN_G, GAIN_H, LANES, QUEUE}
 use Rattle.plum_scale.specs.Classes.{class_named}
 use Rattle.plum_table.specs.declared.fault.Field.TheVariants as field
@@ -20,7 +20,7 @@ use Rattle.plum_table.specs.Keys.{name_of, setup_key, stage_key}
 use Rattle.plum_table.specs.Kinds.{◌>>=◌, of_kind, value_at}
 use Rattle.plum_table.specs.Kinds.{integer_at, integer_up_to, natural_at, array_at, walk_from}
 use Rattle.plum_table.specs.Stages.{coefficient_at, rounding_of, stage_of, stages_of}
-use Rattle.plum_table.specs.Levels.{threshold_of, from_zero, levels_of, unless_at, first_not_rising}
+use Rattle.plum_table.specs.Levels.{threshold_of, from_zero, levels_of, unless_at}
 use Rattle.plum_table.specs.Rules.{class_at, cancel_at, rules_of}
 use Rattle.plum_table.specs.Setup.{gain_of, setup_in, document_of, setup_of}
 

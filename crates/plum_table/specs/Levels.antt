@@ -1,10 +1,10 @@
 -- The threshold table, as the setup file has it (the project's own format).
-use Rattle.std.specs.Prelude.{ℕ, ◌==◌, nat_le, ℤ, pos, nat_abs, List, zip, drop}
-use Rattle.std.specs.Prelude.{slice_index, Option, Some, None, Result, Ok, Err, if◌then◌else◌}
-use Rattle.std.specs.List.{position_from}
+use Rattle.std.specs.Prelude.{ℕ, ℤ, pos, nat_abs, List, Option, Some, None, Result, Ok, Err}
+use Rattle.std.specs.Prelude.{if◌then◌else◌}
 use Rattle.toml.specs.Data.{Members, as_integer}
 use Rattle.plum_base.specs.declared.numbers.Tenths.{Tenths}
 use Rattle.plum_base.specs.Levels.{LevelsView, GREATEST_AMPLITUDE, MOST_LEVELS, GREATEST_FACTOR}
+use Rattle.plum_base.specs.Levels.{starts_at_zero, first_not_rising}
 use Rattle.plum_table.specs.declared.fault.Field.TheVariants as field
 use Rattle.plum_table.specs.declared.fault.SetupFault.{SetupFault}
 use Rattle.plum_table.specs.declared.fault.SetupFault.TheVariants.{Range, Order}
@@ -20,17 +20,13 @@ threshold_of z =
 -- the thresholds, if the first is 0
 abbrev pub from_zero : List ℕ → Result (List ℕ) SetupFault
 from_zero ts =
-    if slice_index ts 0 == 0 then Ok ts else Err (Range (setup_key field.Thresholds))
+    if starts_at_zero ts then Ok ts else Err (Range (setup_key field.Thresholds))
 
 -- one threshold or more, not too many, each in its range, and the first 0
 abbrev pub thresholds_of : Members → Result (List ℕ) SetupFault
 thresholds_of levels =
     array_at as_integer levels (setup_key field.Thresholds) MOST_LEVELS
     >>= walk_from (λ _ z. threshold_of z) 0 >>= from_zero
-
--- the position, from 0, of the first entry that is not greater than the one before it
-abbrev pub first_not_rising : List ℕ → Option ℕ
-first_not_rising ts = position_from (λ (p : ℕ × ℕ). nat_le p.1 p.0) 1 (zip ts (drop 1 ts))
 
 -- the value, unless the order breaks at a position
 abbrev pub unless_at : {A : Type 0} → Option ℕ → A → Result A SetupFault

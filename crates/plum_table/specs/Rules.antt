@@ -1,9 +1,9 @@
 -- The rules of the alerts, as the setup file has them (the project's own format).
-use Rattle.std.specs.Prelude.{nat_le, Result, Ok, Err, ok_or, if◌then◌else◌}
+use Rattle.std.specs.Prelude.{Result, Ok, Err, ok_or, if◌then◌else◌}
 use Rattle.toml.specs.Data.{Members, as_str}
 use Rattle.plum_base.specs.declared.rules.Class.{Class}
 use Rattle.plum_base.specs.declared.rules.Rules.{Rules}
-use Rattle.plum_base.specs.Setup.{rank_of, CALM}
+use Rattle.plum_base.specs.Setup.{is_cancel_class, CALM}
 use Rattle.plum_scale.specs.Classes.{class_named}
 use Rattle.plum_table.specs.declared.fault.Field.TheVariants as field
 use Rattle.plum_table.specs.declared.fault.SetupKey.{SetupKey}
@@ -20,7 +20,7 @@ class_at rules key = value_at as_str rules key >>= (λ text. ok_or (class_named 
 abbrev pub cancel_at : Members → Class → Result Class SetupFault
 cancel_at rules raise =
     class_at rules (setup_key field.Cancel) >>= (λ cancel.
-    if nat_le (rank_of cancel) (rank_of raise) then Ok cancel
+    if is_cancel_class raise cancel then Ok cancel
     else Err (Range (setup_key field.Cancel)))
 
 -- the raise class, the cancel class, and the calm readings in a row that cancel

@@ -40,4 +40,5 @@ stage_of n stage =
 
 -- one stage or more, not too many, in the order of the file
 abbrev pub stages_of : Members → Result (List Stage) SetupFault
-stages_of file = array_at as_table file (setup_key field.Stages) MOST_STAGES >>= walk_from stage_of 0
+stages_of file =
+    array_at as_table file (setup_key field.Stages) MOST_STAGES >>= walk_from stage_of 0

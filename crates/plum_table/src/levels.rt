@@ -29,7 +29,7 @@ fn threshold(z: i64) -> Result<u64, SetupFault>
 }
 
 /// The thresholds of these integers.
-fn read_thresholds(values: &[Value]) -> Result<ArrayVec<u64, 128>, SetupFault>
+fn read_thresholds(values: &[Value]) -> Result<ArrayVec<u64, MOST_LEVELS>, SetupFault>
     requires few { length values.now ≤ most }
     requires integers { AreAll as_integer values.now }
     ensures value { result_map_both (λ t. t.items) (λ e. e) result
@@ -45,7 +45,7 @@ fn read_thresholds(values: &[Value]) -> Result<ArrayVec<u64, 128>, SetupFault>
 }
 
 /// The thresholds, each in its range and the first 0.
-fn thresholds_in(levels: &Table) -> Result<ArrayVec<u64, 128>, SetupFault>
+fn thresholds_in(levels: &Table) -> Result<ArrayVec<u64, MOST_LEVELS>, SetupFault>
     ensures value { result_map_both (λ t. t.items) (λ e. e) result
         ≡ thresholds_of (table_view levels.now) }
     ensures start { IfOk result (λ t. StartsAtZero t.items) }
@@ -60,7 +60,7 @@ fn thresholds_in(levels: &Table) -> Result<ArrayVec<u64, 128>, SetupFault>
 }
 
 /// The table of thresholds in range, if each is greater than the one before it.
-fn in_order(thresholds: ArrayVec<u64, 128>, base: Tenths) -> Result<Levels, SetupFault>
+fn in_order(thresholds: ArrayVec<u64, MOST_LEVELS>, base: Tenths) -> Result<Levels, SetupFault>
     requires start { StartsAtZero thresholds.items }
     requires within { IsWithinUpTo thresholds.items (length thresholds.items) }
     requires base { IsFactor base }

@@ -1,8 +1,8 @@
 //! The rules of the alerts.
 
-ghost use Rattle.std.specs.Prelude.{◌≡◌, ◌≤◌, IfOk};
+ghost use Rattle.std.specs.Prelude.{◌≡◌, IfOk};
 ghost use Rattle.toml.specs.View.{table_view};
-ghost use Rattle.plum_base.specs.Setup.{AreRules, rank_of};
+ghost use Rattle.plum_base.specs.Setup.{AreRules, IsCancelClass};
 ghost use Rattle.plum_table.specs.Rules.{class_at, cancel_at, rules_of};
 
 use crate::fault::{Field, SetupFault, SetupKey};
@@ -24,7 +24,7 @@ fn read_class(rules: &Table, key: SetupKey) -> Result<Class, SetupFault>
 /// The class below which readings are calm. It is not above the raise class.
 fn read_cancel(rules: &Table, raise: Class) -> Result<Class, SetupFault>
     ensures value { result ≡ cancel_at (table_view rules.now) raise }
-    ensures range { IfOk result (λ cancel. rank_of cancel ≤ rank_of raise) }
+    ensures range { IfOk result (IsCancelClass raise) }
 {
     let key = SetupKey::of(Field::Cancel);
     let cancel = read_class(rules, key)?;
@@ -37,7 +37,7 @@ fn read_cancel(rules: &Table, raise: Class) -> Result<Class, SetupFault>
 /// When an alert is raised and cancelled.
 pub fn read_rules(rules: &Table) -> Result<Rules, SetupFault>
     ensures value { result ≡ rules_of (table_view rules.now) }
-    ensures range { IfOk result (λ r. AreRules r.raise r.cancel r.calm) }
+    ensures range { IfOk result AreRules }
 {
     let raise = read_class(rules, SetupKey::of(Field::Raise))?;
     let cancel = read_cancel(rules, raise)?;

@@ -62,7 +62,7 @@ fn read_stage(stage: &Table, number: u8) -> Result<Stage, SetupFault>
 }
 
 /// The stages of these tables.
-fn read_stages(tables: &[Value]) -> Result<ArrayVec<Stage, 8>, SetupFault>
+fn read_stages(tables: &[Value]) -> Result<ArrayVec<Stage, MOST_STAGES>, SetupFault>
     requires few { length tables.now ≤ most }
     requires tables { AreAll as_table tables.now }
     ensures value { result_map_both (λ s. s.items) (λ e. e) result
@@ -78,7 +78,7 @@ fn read_stages(tables: &[Value]) -> Result<ArrayVec<Stage, 8>, SetupFault>
 }
 
 /// The cascade of stages that are all in range.
-fn cascade_of(stages: ArrayVec<Stage, 8>) -> Cascade
+fn cascade_of(stages: ArrayVec<Stage, MOST_STAGES>) -> Cascade
     requires some { 1 ≤ length stages.items }
     requires range { All IsStage stages.items }
     ensures { result ≡ stages.items }
