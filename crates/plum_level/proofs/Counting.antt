@@ -6,7 +6,7 @@ use Rattle.std.proofs.lemmas.Bool.{cases_Bool}
 use Rattle.std.proofs.lemmas.List.{drop-set-lt, drop-set-add, drop-drop, get_or-drop}
 use Rattle.std.proofs.lemmas.List.Sums.{sum_by-set, sum_by-drop_more, sum_by-take-drop}
 use Rattle.std.specs.Int.{from_bool}
-use Rattle.plum_level.specs.Tallies.{from_level, one_more, one_less}
+use Rattle.plum_level.specs.Tallies.{from_level, one_sample_more, one_sample_less}
 
 -- the level itself, and those above it
 pub from_level-step : (counts : List ℕ) (k : ℕ) → k < length counts
@@ -41,9 +41,9 @@ pub from_level-set_below : (counts : List ℕ) (k j n : ℕ) → j < k
 from_level-set_below counts k j n below = ap sum (drop-set-lt k counts j n below)
 
 -- one sample more of a level
-pub from_level-one_more : (counts : List ℕ) (k l : ℕ) → l < length counts
-    → from_level (one_more counts l) k ≡ from_level counts k + cond (leb k l) 1 0
-from_level-one_more counts k l below = elim (cases_Bool (leb k l)) [
+pub from_level-one_sample_more : (counts : List ℕ) (k l : ℕ) → l < length counts
+    → from_level (one_sample_more counts l) k ≡ from_level counts k + cond (leb k l) 1 0
+from_level-one_sample_more counts k l below = elim (cases_Bool (leb k l)) [
   | inl up_to ↦ rw up_to (omega (
     arith,
     from_level-set counts k l (get_or counts l 0 + 1)
@@ -57,9 +57,10 @@ from_level-one_more counts k l below = elim (cases_Bool (leb k l)) [
 ]
 
 -- one sample less
-pub from_level-one_less : (counts : List ℕ) (k l : ℕ) → l < length counts → 0 < get_or counts l 0
-    → from_level (one_less counts l) k + cond (leb k l) 1 0 ≡ from_level counts k
-from_level-one_less counts k l below there = elim (cases_Bool (leb k l)) [
+pub from_level-one_sample_less : (counts : List ℕ) (k l : ℕ) → l < length counts
+    → 0 < get_or counts l 0
+    → from_level (one_sample_less counts l) k + cond (leb k l) 1 0 ≡ from_level counts k
+from_level-one_sample_less counts k l below there = elim (cases_Bool (leb k l)) [
   | inl up_to ↦ rw up_to (omega (
     arith,
     from_level-set counts k l (get_or counts l 0 - 1)

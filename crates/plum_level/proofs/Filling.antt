@@ -58,7 +58,8 @@ module _ (table : LevelsView) (is : IsLevelTable table) where
             ]
       ])
 
-  pub IsFilled-table : IsFilled (ts ++ drop (length ts) (replicate MOST_LEVELS FILL)) (length ts - 1)
+  pub IsFilled-table :
+      IsFilled (ts ++ drop (length ts) (replicate MOST_LEVELS FILL)) (length ts - 1)
   IsFilled-table =
       subst (λ xs. IsFilled (ts ++ xs) (length ts - 1))
       (sym (drop-replicate (length ts) MOST_LEVELS FILL))

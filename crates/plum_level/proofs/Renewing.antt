@@ -12,8 +12,9 @@ use Rattle.std.proofs.lemmas.List.Sums.{sum_by-cons, sum_by_push, sum_by-le-sum_
 use Rattle.std.proofs.lemmas.List.Sums.{count_by-le-length}
 use Rattle.plum_level.specs.Level.{WINDOW, last_minute}
 use Rattle.plum_base.specs.Levels.{MOST_LEVELS}
-use Rattle.plum_level.specs.Tallies.{from_level, one_less, renewed, AreCountsOf}
-use Rattle.plum_level.proofs.Counting.{from_level-step, from_level-one_more, from_level-one_less}
+use Rattle.plum_level.specs.Tallies.{from_level, one_sample_less, renewed, AreCountsOf}
+use Rattle.plum_level.proofs.Counting.{from_level-step, from_level-one_sample_more}
+use Rattle.plum_level.proofs.Counting.{from_level-one_sample_less}
 use Rattle.plum_level.proofs.Minutes.{last_minute_short}
 
 -- Nothing is counted at first.
@@ -101,7 +102,7 @@ AreCountsOf-renewed counts levels came places listed short counted true is k le 
     let all = last_minute_short (levels ++ came ∷ []) (omega (arith, long)) in
     omega (
       arith,
-      from_level-one_more counts k came (omega arith),
+      from_level-one_sample_more counts k came (omega arith),
       counted k le,
       sum_by_push (λ l. cond (leb k l) 1 0) levels came,
       ap (count_by (leb k)) all,
@@ -113,13 +114,14 @@ AreCountsOf-renewed counts (x ∷ rest) came places listed short counted false i
     let one : length (x ∷ rest ++ came ∷ []) - WINDOW ≡ 1 =
     omega (arith, length-append rest (came ∷ [])) in
     let all = ap (λ n. drop n (x ∷ rest ++ came ∷ [])) one in
-    let less = one_less counts x in
+    let less = one_sample_less counts x in
     let long = length-set counts x (get_or counts x 0 - 1) in
     let first = first_listed counts places x rest counted in
     omega (
       arith,
-      from_level-one_more less k came (omega (arith, long)),
-      from_level-one_less counts k x (omega arith) (first_counted counts places x rest counted),
+      from_level-one_sample_more less k came (omega (arith, long)),
+      from_level-one_sample_less counts k x (omega arith)
+          (first_counted counts places x rest counted),
       counted k le,
       sum_by-cons (λ l. cond (leb k l) 1 0) x rest,
       sum_by_push (λ l. cond (leb k l) 1 0) rest came,

@@ -10,17 +10,17 @@ abbrev pub from_level : List ℕ → ℕ → ℕ
 from_level counts k = sum (drop k counts)
 
 -- one sample more of this level
-abbrev pub one_more : List ℕ → ℕ → List ℕ
-one_more counts level = slice_set counts level (slice_index counts level + 1)
+abbrev pub one_sample_more : List ℕ → ℕ → List ℕ
+one_sample_more counts level = slice_set counts level (slice_index counts level + 1)
 
 -- one sample less of it
-abbrev pub one_less : List ℕ → ℕ → List ℕ
-one_less counts level = slice_set counts level (slice_index counts level - 1)
+abbrev pub one_sample_less : List ℕ → ℕ → List ℕ
+one_sample_less counts level = slice_set counts level (slice_index counts level - 1)
 
 -- a sample of this level came, and one may have left
 abbrev pub renewed : List ℕ → Option ℕ → ℕ → List ℕ
-renewed counts None came = one_more counts came
-renewed counts (Some left) came = one_more (one_less counts left) came
+renewed counts None came = one_sample_more counts came
+renewed counts (Some left) came = one_sample_more (one_sample_less counts left) came
 
 -- The counts are those of these levels: none is past the last that a table can have.
 abbrev pub AreCountsOf : List ℕ → List ℕ → Type 0

@@ -3,7 +3,7 @@
 ghost use Rattle.std.specs.Prelude.{◌≡◌, ◌+◌, ◌-◌, ◌<◌, ◌≤◌, slice_index, sum, replicate, IfSome};
 ghost use Rattle.plum_level.specs.Level.{WINDOW, ENOUGH};
 ghost use Rattle.plum_base.specs.Levels.{MOST_LEVELS};
-ghost use Rattle.plum_level.specs.Tallies.{from_level, one_more, one_less, renewed};
+ghost use Rattle.plum_level.specs.Tallies.{from_level, one_sample_more, one_sample_less, renewed};
 ghost use Rattle.plum_level.specs.Tallies.{IsTally, IsSettled};
 
 use plum_base::MOST_LEVELS;
@@ -64,7 +64,7 @@ impl Tally {
         requires listed { level < MOST_LEVELS }
         requires tally { IsTally self.old }
         requires few { sum self.old.counts ≤ WINDOW }
-        ensures counts { self.new.counts ≡ one_more self.old.counts level }
+        ensures counts { self.new.counts ≡ one_sample_more self.old.counts level }
         ensures tally { IsTally self.new }
     {
         let level = level as usize;
@@ -77,7 +77,7 @@ impl Tally {
         requires listed { level < MOST_LEVELS }
         requires tally { IsTally self.old }
         requires there { 0 < slice_index self.old.counts level }
-        ensures counts { self.new.counts ≡ one_less self.old.counts level }
+        ensures counts { self.new.counts ≡ one_sample_less self.old.counts level }
         ensures tally { IsTally self.new }
     {
         let level = level as usize;

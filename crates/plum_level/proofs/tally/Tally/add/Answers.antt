@@ -1,6 +1,6 @@
 use Rattle.std.proofs.Common.{◌+◌, ◌<◌, length, get_or, leb, ◌∙◌, arith}
 use Rattle.std.proofs.lemmas.List.{length-set}
-use Rattle.plum_level.proofs.Counting.{from_level-falls, from_level-one_more, from_bool-cond}
+use Rattle.plum_level.proofs.Counting.{from_level-falls, from_level-one_sample_more, from_bool-cond}
 use Rattle.plum_level.proofs.Counting.{from_bool-le}
 use Rattle.plum_level.proofs.tally.Tally.add.Goals as goal
 
@@ -24,6 +24,6 @@ returns-clause-tally c =
         c.requires.tally.reached,
         c.from.ensures,
         from_bool-cond (leb before.top c.args.level),
-        from_level-one_more before.counts before.top c.args.level within,
+        from_level-one_sample_more before.counts before.top c.args.level within,
       );
     }

@@ -1,6 +1,6 @@
 use Rattle.std.proofs.Common.{◌-◌, ◌<◌, length, get_or, leb, ◌∙◌, arith}
 use Rattle.std.proofs.lemmas.List.{length-set}
-use Rattle.plum_level.proofs.Counting.{from_level-one_less, from_bool-cond}
+use Rattle.plum_level.proofs.Counting.{from_level-one_sample_less, from_bool-cond}
 use Rattle.plum_level.proofs.tally.Tally.remove.Goals as goal
 
 pub overflow_sub-self-2 : goal.overflow_sub-self-2
@@ -12,7 +12,7 @@ overflow_sub-self-2 c =
       c.requires.tally.reached,
       c.from.ensures,
       from_bool-cond (leb before.top c.args.level),
-      from_level-one_less before.counts before.top c.args.level within c.requires.there,
+      from_level-one_sample_less before.counts before.top c.args.level within c.requires.there,
     )
 
 pub returns-clause-tally : goal.returns-clause-tally
@@ -28,6 +28,6 @@ returns-clause-tally c =
         c.requires.tally.reached,
         c.from.ensures,
         from_bool-cond (leb before.top c.args.level),
-        from_level-one_less before.counts before.top c.args.level within c.requires.there,
+        from_level-one_sample_less before.counts before.top c.args.level within c.requires.there,
       );
     }
