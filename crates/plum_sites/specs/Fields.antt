@@ -2,9 +2,13 @@
 use Rattle.std.specs.Prelude.{◌≡◌, ◌≤◌, ◌⊎◌, ℕ, ℤ, pos, neg_ℤ, List, ◌∷◌, length}
 use Rattle.std.specs.Str.Parse.{IsNumeral, digits_value}
 
--- 1 to 9 decimal digits
+-- the most digits of a number field
+abbrev pub MOST_DIGITS : ℕ
+MOST_DIGITS = 9
+
+-- one decimal digit or more, and not too many
 abbrev pub IsShortNumeral : List ℕ → Type 0
-IsShortNumeral digits = IsNumeral 10 digits × (length digits ≤ 9)
+IsShortNumeral digits = IsNumeral 10 digits × (length digits ≤ MOST_DIGITS)
 
 -- a number field, such digits or `-` (byte 45) and such digits, and the number that it spells
 abbrev pub Spells : List ℕ → ℤ → Type 0
