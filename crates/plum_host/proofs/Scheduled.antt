@@ -6,7 +6,8 @@ use Rattle.std.specs.List.{range_with_len}
 use Rattle.std.proofs.Math.Nat.{eq-or-lt_of_le}
 use Rattle.std.proofs.lemmas.List.FromFn.{map-range_with_len_more, length-range_with_len}
 use Rattle.std.proofs.lemmas.List.Sums.{count_by-le-length, sum_by_push}
-use Rattle.plum_host.specs.Faults.{HasRisen, one_more}
+use Rattle.plum_base.specs.Counting.{one_more}
+use Rattle.plum_host.specs.Faults.{HasRisen}
 use Rattle.plum_host.specs.Schedule.{is_listed}
 
 -- one number more

@@ -1,9 +1,6 @@
--- Counts of faults and of calls.
-use Rattle.std.specs.Prelude.{◌≡◌, ℕ, ◌+◌, ◌-◌, ◌^◌, min, max}
-
--- the count after one more: at 2^64 - 1, where it ends, it stands still
-abbrev pub one_more : ℕ → ℕ
-one_more count = max count (min (count + 1) (2 ^ 64 - 1))
+-- Counts of faults.
+use Rattle.std.specs.Prelude.{◌≡◌, ℕ}
+use Rattle.plum_base.specs.Counting.{one_more}
 
 -- One fault was counted.
 abbrev pub HasRisen : ℕ → ℕ → Type 0

@@ -1,7 +1,7 @@
 -- Calls that fail by a schedule. Reads and writes have one each.
 use Rattle.std.specs.Prelude.{ℕ, ◌+◌, min, Bool, false, ◌==◌, List, count_by, Option, Some, None}
 use Rattle.std.specs.List.{list_any, range_with_len}
-use Rattle.plum_host.specs.Faults.{one_more}
+use Rattle.plum_base.specs.Counting.{one_more}
 
 -- how many bytes a call moves at most, the numbers of the calls that fail, from 1, and how many
 -- calls were made

@@ -1,5 +1,5 @@
 use Rattle.std.proofs.Common.{◌≡◌, ◌<◌, ◌^◌, true, false, ap, sym, ◌∙◌, arith}
-use Rattle.plum_host.specs.Faults.{one_more}
+use Rattle.plum_base.specs.Counting.{one_more}
 use Rattle.plum_host.specs.Schedule.{is_listed}
 use Rattle.plum_host.proofs.Scheduled.{failed-one_more, failed-same}
 use Rattle.plum_host.proofs.schedule.Schedule.next.Goals as goal
