@@ -79,7 +79,8 @@ module _ (output_is : OutputIs) (setup : Setup) (run : List Sample) where
           let long = length-map run (λ s. signal_of gain (component s)) in
           let below : n < length run = omega arith in
           let count = component (get_or run n any) in
-          subst IsTerm (sym (get_or-map (λ s. signal_of gain (component s)) run n any (pos 0) below))
+          subst IsTerm
+          (sym (get_or-map (λ s. signal_of gain (component s)) run n any (pos 0) below))
           (clamped-term (int_div_euclid (count *ℤ pos gain.g) (pos (2 ^ gain.h))))
 
   -- the amplitude at an index

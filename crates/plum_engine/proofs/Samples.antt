@@ -38,7 +38,8 @@ module _ (setup : Setup) (run : List Sample) (s : Sample) (component : Sample �
 
 -- Each filter was given the signal of its component, and gave its answer.
 pub JoinsSample-from : AsLong → (gain : Gain) (s : Sample) {xs ys zs xs' ys' zs' : List Biquad}
-    {x y z : ℤ} → JoinsInput xs xs' (signal_of gain s.x) x → JoinsInput ys ys' (signal_of gain s.y) y
+    {x y z : ℤ} → JoinsInput xs xs' (signal_of gain s.x) x
+    → JoinsInput ys ys' (signal_of gain s.y) y
     → JoinsInput zs zs' (signal_of gain s.z) z
     → JoinsSample (record { gain = gain; x = xs; y = ys; z = zs })
     (record { gain = gain; x = xs'; y = ys'; z = zs' }) s (square x + square y + square z)

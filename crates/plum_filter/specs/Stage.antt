@@ -1,19 +1,24 @@
 -- The output of one stage and of a cascade, over whole sequences: the recursive filters of Kunugi
 -- and others (2013), in the project's own fixed point.
-use Rattle.std.specs.Prelude.{◌≡◌, ℕ, ◌-◌, ◌^◌, ◌<◌, ℤ, pos, neg_ℤ, ◌+ℤ◌, ◌-ℤ◌, ◌*ℤ◌, ◌≤ℤ◌}
+use Rattle.std.specs.Prelude.{◌≡◌, ℕ, ◌-◌, ◌^◌, ◌<◌, ℤ, pos, neg_ℤ, ◌+ℤ◌, ◌-ℤ◌, ◌*ℤ◌}
 use Rattle.std.specs.Prelude.{List, [], ◌∷◌, length, slice_index_or}
 use Rattle.std.specs.Int.{int_min, int_max, int_div_euclid}
 use Rattle.plum_base.specs.declared.cascade.Stage.{Stage}
 use Rattle.plum_base.specs.declared.cascade.Rounding.{Rounding}
 use Rattle.plum_base.specs.declared.cascade.Rounding.TheVariants.{Floor, Nearest}
+use Rattle.plum_base.specs.Bounds.{IsUpTo}
 
--- a term of a stage's input or output: from -2^30 to 2^30 (the project's own)
+-- the greatest term (the project's own)
+abbrev pub GREATEST_TERM : ℕ
+GREATEST_TERM = 2 ^ 30
+
+-- a term of a stage's input or output: from -2^30 to 2^30
 abbrev pub IsTerm : ℤ → Type 0
-IsTerm z = (neg_ℤ (pos (2 ^ 30)) ≤ℤ z) × (z ≤ℤ pos (2 ^ 30))
+IsTerm z = IsUpTo GREATEST_TERM z
 
 -- cut to -2^30 at the low end and to 2^30 at the high end (the project's own)
 abbrev pub clamped : ℤ → ℤ
-clamped z = int_max (neg_ℤ (pos (2 ^ 30))) (int_min z (pos (2 ^ 30)))
+clamped z = int_max (neg_ℤ (pos GREATEST_TERM)) (int_min z (pos GREATEST_TERM))
 
 -- A sum divided by 2^q: rounded down, or to the nearest with halves up (the project's own). At a
 -- positive divisor Euclid's quotient is the one rounded down.

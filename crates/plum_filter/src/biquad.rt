@@ -2,7 +2,7 @@
 
 ghost use Rattle.std.specs.Prelude.{◌≡◌, ◌^◌, ◌*◌, ◌+◌, ◌≤◌, pos, ◌+ℤ◌, ◌-ℤ◌, ◌*ℤ◌, unsigned_abs};
 ghost use Rattle.std.specs.Int.{int_div_euclid};
-ghost use Rattle.plum_base.specs.Cascade.{IsStage, IsCoefficient};
+ghost use Rattle.plum_base.specs.Cascade.{STAGE_Q, IsStage, IsCoefficient};
 ghost use Rattle.plum_filter.specs.Stage.{IsTerm, clamped};
 ghost use Rattle.plum_filter.specs.Filter.{half_of, IsBiquad, answer_of, moved_on, new_biquad};
 
@@ -49,8 +49,8 @@ fn added(b: i32, x: i32, a: i32, y: i32) -> i64
 
 /// What is added before a division by 2^q: half of it, to round to the nearest.
 fn half_of(round: Rounding, q: u8) -> i64
-    requires low { 1 ≤ q }
-    requires high { q ≤ 30 }
+    requires low { STAGE_Q.low ≤ q }
+    requires high { q ≤ STAGE_Q.high }
     ensures { result ≡ pos (half_of round q) }
 {
     match round {
@@ -61,7 +61,7 @@ fn half_of(round: Rounding, q: u8) -> i64
 
 /// A sum divided by 2^q, rounded down.
 fn divided(sum: i64, q: u8) -> i64
-    requires { q ≤ 30 }
+    requires { q ≤ STAGE_Q.high }
     ensures { result ≡ int_div_euclid sum (pos (2 ^ q)) }
 {
     sum >> q

@@ -7,13 +7,13 @@ ghost use Rattle.plum_filter.specs.Filter.{StandsFor, IsBiquad, JoinsInput, new_
 
 use crate::biquad::Biquad;
 use arrayvec::ArrayVec;
-use plum_base::Cascade;
+use plum_base::{Cascade, MOST_STAGES};
 use std::marker::Model;
 
 /// A cascade of recursive stages with what each still needs of its past.
 #[derive(Drop)]
 pub struct Filter {
-    stages: ArrayVec<Biquad, 8>,
+    stages: ArrayVec<Biquad, MOST_STAGES>,
 }
 
 impl Model for Filter {
