@@ -5,7 +5,7 @@ use Rattle.std.proofs.Common.{eqb-true, ltb-false}
 use Rattle.std.proofs.lemmas.Bool.{and_from, cases_Bool}
 use Rattle.std.proofs.lemmas.Int.{ints}
 use Rattle.std.proofs.lemmas.List.{map-append}
-use Rattle.std.specs.Prelude.{◌==◌, nat_lt, if◌then◌else◌, int_le, ℤ, pos, neg_ℤ, ◌+ℤ◌, ◌≤ℤ◌}
+use Rattle.std.specs.Prelude.{◌==◌, nat_lt, if◌then◌else◌, int_le, ℤ, pos, ◌+ℤ◌, ◌≤ℤ◌}
 use Rattle.plum_base.specs.declared.entry.Entry.{Entry}
 use Rattle.plum_base.specs.declared.numbers.Tenths.{Tenths}
 use Rattle.plum_base.specs.declared.setup.Setup.{Setup}
@@ -15,7 +15,7 @@ use Rattle.plum_seq.specs.Keys.{of_station, with_fresh}
 use Rattle.plum_engine.specs.Engine.{IsValueOf}
 use Rattle.plum_engine.specs.Value.{IsValue}
 use Rattle.plum_geo.specs.Prediction.{none_or_on_scale, is_shown_by, shown_entries}
-use Rattle.plum_geo.specs.Prediction.{last_value, shown}
+use Rattle.plum_geo.specs.Prediction.{last_value, shown, SCALE_LOW, SCALE_HIGH}
 use Rattle.plum_geo.proofs.LastValues.{last_value-push, last_value-push_other}
 use Rattle.plum_core.specs.History.{packet_of, packets_of, IsEntryAfter, IsValidHistory}
 use Rattle.plum_core.proofs.Joining.{IsValidHistory-front}
@@ -34,8 +34,8 @@ on_scale : (table : LevelsView) (amplitudes : List ℕ) (value : Option Tenths) 
 on_scale table amplitudes None is_table is = refl
 on_scale table amplitudes (Some v) is_table is =
     let sum : v.0 ≡ table.base.0 +ℤ pos is.0 = ap (λ (t : Tenths). t.0) is.2 in
-    let low : neg_ℤ (pos 100) ≤ℤ v.0 = omega (arith, ints, is_table.base.0, sum) in
-    let high : v.0 ≤ℤ pos 227 =
+    let low : SCALE_LOW ≤ℤ v.0 = omega (arith, ints, is_table.base.0, sum) in
+    let high : v.0 ≤ℤ SCALE_HIGH =
     omega (arith, ints, is_table.base.1, is_table.few, is.1.1.listed, sum) in
     and_from _ _ (le_yes _ _ low) (le_yes _ _ high)
 

@@ -17,14 +17,21 @@ use Rattle.plum_base.specs.declared.sites.TargetSite.{TargetSite}
 abbrev pub RADIUS : ℕ
 RADIUS = 30000
 
--- from -10.0 to 22.7: what a threshold table can give
+-- the ends of what a threshold table can give, in tenths: -10.0 and 22.7
+abbrev pub SCALE_LOW : ℤ
+SCALE_LOW = neg_ℤ (pos 100)
+
+abbrev pub SCALE_HIGH : ℤ
+SCALE_HIGH = pos 227
+
+-- from the one to the other
 abbrev pub IsOnScale : Tenths → Type 0
-IsOnScale t = (neg_ℤ (pos 100) ≤ℤ t.0) × (t.0 ≤ℤ pos 227)
+IsOnScale t = (SCALE_LOW ≤ℤ t.0) × (t.0 ≤ℤ SCALE_HIGH)
 
 -- none, or on the scale
 abbrev pub none_or_on_scale : Option Tenths → Bool
 none_or_on_scale None = true
-none_or_on_scale (Some t) = int_le (neg_ℤ (pos 100)) t.0 && int_le t.0 (pos 227)
+none_or_on_scale (Some t) = int_le SCALE_LOW t.0 && int_le t.0 SCALE_HIGH
 
 -- the entry is of this station, and its value is none or on the scale
 abbrev pub is_shown_by : ℕ → Entry → Bool

@@ -1,6 +1,7 @@
 //! What stations show, and predictions from it by a scan of all stations.
 
-ghost use Rattle.std.specs.Prelude.{◌≡◌, ◌<◌, ◌≤ℤ◌, ◌⊎◌, ℕ, List, [], ◌∷◌, ◌++◌, length, All, replicate};
+ghost use Rattle.std.specs.Prelude.{◌≡◌, ◌<◌, ◌≤ℤ◌, ◌⊎◌, ℕ, List, [], ◌∷◌, ◌++◌, length, All};
+ghost use Rattle.std.specs.Prelude.{replicate};
 ghost use Rattle.std.specs.Prelude.{Option, Some, None, IfSome, IfNone, IsSomeAnd, IfOk, IsTrue};
 ghost use Rattle.plum_base.specs.declared.entry.Entry.{Entry};
 ghost use Rattle.plum_base.specs.declared.numbers.Tenths.{Tenths};
@@ -74,6 +75,12 @@ impl Shown {
     }
 }
 
+/// The least value of the scale, in tenths.
+const SCALE_LOW: i16 = -100;
+
+/// The greatest.
+const SCALE_HIGH: i16 = 227;
+
 /// Whether a value is none or from -10.0 to 22.7.
 pub fn none_or_on_scale(value: Option<Tenths>) -> bool
     ensures value { result ≡ none_or_on_scale value }
@@ -81,7 +88,7 @@ pub fn none_or_on_scale(value: Option<Tenths>) -> bool
 {
     match value {
         None => true,
-        Some(t) => -100 <= t.0 && t.0 <= 227,
+        Some(t) => SCALE_LOW <= t.0 && t.0 <= SCALE_HIGH,
     }
 }
 
