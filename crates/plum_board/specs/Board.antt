@@ -1,8 +1,8 @@
 -- A board, and the entries that were applied to it.
-use Rattle.std.specs.Prelude.{◌≡◌, ◌+◌, ◌-◌, ◌^◌, ℕ, List, [], ◌∷◌, ◌++◌, length, min, Option}
-use Rattle.std.specs.Prelude.{None, replicate}
+use Rattle.std.specs.Prelude.{◌≡◌, ℕ, List, [], ◌∷◌, ◌++◌, length, Option, None, replicate}
 use Rattle.plum_base.specs.declared.entry.Entry.{Entry}
 use Rattle.plum_base.specs.declared.numbers.Tenths.{Tenths}
+use Rattle.plum_base.specs.Counting.{count_after, one_more}
 use Rattle.plum_base.specs.Sites.{SitesView}
 use Rattle.plum_geo.specs.Shown.{AreShown, shown_after}
 
@@ -16,7 +16,7 @@ pub record BoardView : Type 0 where
 pub record StandsFor (board : BoardView) (sites : SitesView) (entries : List Entry) : Type 0 where
   pub same_sites : board.sites ≡ sites
   pub shown : AreShown board.values (length sites.stations) entries
-  pub counted : board.count ≡ min (length entries) (2 ^ 64 - 1)
+  pub counted : board.count ≡ count_after (length entries)
 
 -- the board of the empty history: no station shows a value
 abbrev pub new_board : SitesView → BoardView
@@ -31,7 +31,7 @@ abbrev pub board_after : BoardView → Entry → BoardView
 board_after board entry = record {
   sites = board.sites;
   values = shown_after board.values entry;
-  count = min (board.count + 1) (2 ^ 64 - 1);
+  count = one_more board.count;
 }
 
 -- A board after some entries, and an entry more: it is the board after all of them.

@@ -1,7 +1,8 @@
 -- A place at the published board, and when a count of refusals tells of one.
-use Rattle.std.specs.Prelude.{ℕ, ◌≡◌, ◌<◌, ◌-◌, ◌^◌, ◌⊎◌, List}
+use Rattle.std.specs.Prelude.{ℕ, ◌≡◌, ◌<◌, ◌⊎◌, List}
 use mathlib.Core.List.{IsPrefix}
 use Rattle.plum_base.specs.declared.entry.Entry.{Entry}
+use Rattle.plum_base.specs.Counting.{COUNT_END}
 use Rattle.plum_base.specs.Sites.{SitesView}
 use Rattle.plum_snap.specs.declared.snapshot.Snapshot.{Snapshot}
 use Rattle.plum_snap.specs.Fronts.{PublisherId}
@@ -9,7 +10,7 @@ use Rattle.plum_snap.specs.Snapshots.{IsRight}
 
 -- the count rose, or stands at its last value
 abbrev pub Rose : ℕ → ℕ → Type 0
-Rose before now = (before < now) ⊎ (now ≡ 2 ^ 64 - 1)
+Rose before now = (before < now) ⊎ (now ≡ COUNT_END)
 
 -- a place at the published board: whose it is, of which sites, what has been seen from it, and how
 -- often it was shut
