@@ -16,7 +16,8 @@ use Rattle.plum_base.specs.declared.sites.StationSite.{StationSite}
 use Rattle.plum_base.specs.Levels.{IsFactor}
 use Rattle.plum_base.specs.Sites.{IsPlace}
 use Rattle.plum_geo.specs.Corrected.{IsOnCorrectedScale}
-use Rattle.plum_geo.specs.Prediction.{RADIUS, corrected, distance_squared, IsNear, is_near, FindsNear}
+use Rattle.plum_geo.specs.Prediction.{RADIUS, corrected, distance_squared, IsNear, is_near}
+use Rattle.plum_geo.specs.Prediction.{FindsNear}
 use Rattle.plum_geo.specs.Prediction.{Reports, IsSaid, IsBest, IsOnScale}
 use Rattle.plum_geo.specs.Shown.{value_in}
 use Rattle.plum_pyramid.specs.declared.layout.Layout.{Layout}

@@ -38,6 +38,7 @@ module _ (stations : List StationSite) (members : List Member) (lawful : AreStat
         let same : get_or stations n site ≡ site = get_or_from_slice_get stations n site site is in
         let there : get_or members n own ≡ own =
         each n own within
-        ∙ ap (λ (s : StationSite). let m : Member = record { site = s; number = record { 0 = n } } in m) same in
+        ∙ ap (λ (s : StationSite).
+        let m : Member = record { site = s; number = record { 0 = n } } in m) same in
         (n, omega arith, there);
   }

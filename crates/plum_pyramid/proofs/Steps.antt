@@ -15,7 +15,8 @@ use Rattle.plum_pyramid.specs.declared.layout.Member.{Member}
 use Rattle.plum_pyramid.specs.declared.searching.Search.{Search}
 use Rattle.plum_pyramid.specs.Maxima.{said, said_at, IsAtMost, IsGreatest}
 use Rattle.plum_pyramid.specs.Cells.{past, IsLaid, IsMaximum, cell_at, HasSearched}
-use Rattle.plum_pyramid.proofs.Greatest.{IsAtMost-refl, IsAtMost-trans, IsGreatest-as, IsGreatest-more}
+use Rattle.plum_pyramid.proofs.Greatest.{IsAtMost-refl, IsAtMost-trans, IsGreatest-as}
+use Rattle.plum_pyramid.proofs.Greatest.{IsGreatest-more}
 use Rattle.plum_pyramid.proofs.Greatest.{IsGreatest-join, IsGreatest-ends, IsGreatest-nil}
 
 module _ (values : List (Option Tenths)) (place : Point) (m : Member) where

@@ -1,5 +1,6 @@
 -- A pyramid as a whole: where none has a value, and after a station was set.
-use Rattle.std.proofs.Common.{◌≡◌, ℕ, ◌<◌, ◌++◌, List, [], length, take, drop, set, get_or, replicate}
+use Rattle.std.proofs.Common.{◌≡◌, ℕ, ◌<◌, ◌++◌, List, [], length, take, drop, set, get_or}
+use Rattle.std.proofs.Common.{replicate}
 use Rattle.std.proofs.Common.{Option, None, inl, inr, sym, ◌∙◌, ap, subst, arith}
 use Rattle.std.proofs.Common.{append-nil, length-set}
 use Rattle.std.proofs.Math.Seq.{take-length}
@@ -56,8 +57,9 @@ module _ (layout : Layout) (laid : IsLaid layout) where
     count = length-replicate cells None ∙ count;
     each = λ k below.
         let nones : List (Option Tenths) = replicate stations None in
-        let silent = λ (m : Member). ap (option_map (λ (v : Tenths). let t : Tenths = record { 0 = corrected m.site v } in t))
-        (none-in stations m.number.0) in
+        let silent = λ (m : Member).
+        ap (option_map (λ (v : Tenths).
+        let t : Tenths = record { 0 = corrected m.site v } in t)) (none-in stations m.number.0) in
         subst (λ (o : Option Tenths). IsMaximum layout nones k o) (sym (none-in cells k))
         (record {
           covers = λ p m from to is.

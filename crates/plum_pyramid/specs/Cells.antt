@@ -1,6 +1,7 @@
 -- How a pyramid keeps its squares: those that have stations alone, each before all squares that lie
 -- within it. The stations stand in an order in which those of a square are a run.
-use Rattle.std.specs.Prelude.{◌≡◌, ◌≢◌, ℕ, ◌+◌, ◌<◌, ◌≤◌, ℤ, pos, ◌+ℤ◌, ◌≤ℤ◌, List, length, slice_get}
+use Rattle.std.specs.Prelude.{◌≡◌, ◌≢◌, ℕ, ◌+◌, ◌<◌, ◌≤◌, ℤ, pos, ◌+ℤ◌, ◌≤ℤ◌, List, length}
+use Rattle.std.specs.Prelude.{slice_get}
 use Rattle.std.specs.Prelude.{slice_index_or, All, Option, Some, IfSome, ◌⊎◌}
 use Rattle.std.specs.List.{Contains}
 use Rattle.plum_base.specs.declared.numbers.Point.{Point}

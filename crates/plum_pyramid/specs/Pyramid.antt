@@ -1,5 +1,6 @@
 -- A pyramid, and what its stations were set to.
-use Rattle.std.specs.Prelude.{◌≡◌, ℕ, ◌==◌, List, length, filter, replicate, slice_set, Option, None}
+use Rattle.std.specs.Prelude.{◌≡◌, ℕ, ◌==◌, List, length, filter, replicate, slice_set, Option}
+use Rattle.std.specs.Prelude.{None}
 use Rattle.std.specs.List.{last_or}
 use Rattle.std.specs.Option.{option_and_then}
 use Rattle.plum_base.specs.declared.numbers.StationNo.{StationNo}

@@ -11,7 +11,8 @@ pub struct Member {
 }
 
 /// A square that has stations, and which of the members these are: a run. All cells within it stand
-/// behind it, up to the one that it skips to. One that skips to the next has none within it: a leaf.
+/// behind it, up to the one that it skips to. One that skips to the next has none within it: a
+/// leaf.
 #[derive(Clone, Copy, Debug)]
 pub struct Cell {
     pub square: Square,

@@ -9,6 +9,7 @@ use Rattle.plum_pyramid.proofs.maxima.greatest_said_at.Goals as goal
 pub loop-p-preserved : goal.loop-p-preserved
 loop-p-preserved c =
     let members = c.args.members.now in
+    let said = said_at c.args.values.now c.args.place in
     let p = c.loop-p.p in
     let so_far = c.loop-p.greatest in
     let own = c.said_at.result in
@@ -17,12 +18,12 @@ loop-p-preserved c =
     let within : p < length members = omega arith in
     record {
       greatest =
-          IsGreatest-join (said_at c.args.values.now c.args.place) members c.args.first p (p + 1) so_far own after
+          IsGreatest-join said members c.args.first p (p + 1) so_far own after
           (omega arith) (omega arith) c.loop-p.invariant.greatest
-          (IsGreatest-one (said_at c.args.values.now c.args.place) members p (get_or members p blank)
+          (IsGreatest-one said members p (get_or members p blank)
           (slice_get-get_or members p blank within) own c.said_at.ensures.value)
           greater.one greater.first greater.second;
       range =
-          one_of (said_at c.args.values.now c.args.place) members IsOnCorrectedScale so_far own after greater.one
+          one_of said members IsOnCorrectedScale so_far own after greater.one
           c.loop-p.invariant.range c.said_at.ensures.range;
     }

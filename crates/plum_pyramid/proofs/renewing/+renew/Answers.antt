@@ -1,4 +1,5 @@
-use Rattle.std.proofs.Common.{◌≡◌, ℕ, ◌+◌, ◌<◌, ◌≤◌, List, length, Some, None, refl, sym, ap, subst, arith}
+use Rattle.std.proofs.Common.{◌≡◌, ℕ, ◌+◌, ◌<◌, ◌≤◌, List, length, Some, None, refl, sym, ap, subst}
+use Rattle.std.proofs.Common.{arith}
 use Rattle.std.proofs.lemmas.Bool.{iff_false}
 use Rattle.std.proofs.lemmas.Option.{slice_get_read}
 use Rattle.std.specs.Prelude.{slice_get, All}
@@ -9,7 +10,8 @@ use Rattle.plum_pyramid.specs.declared.layout.Member.{Member}
 use Rattle.plum_pyramid.specs.Maxima.{said, IsGreatest, CanSay}
 use Rattle.plum_pyramid.specs.Cells.{cell_at, IsMaximum}
 use Rattle.plum_pyramid.proofs.Greatest.{IsGreatest-nil, IsGreatest-ends}
-use Rattle.plum_pyramid.proofs.Renewals.{CanSay-all, IsWithout-away, IsRenewed-without, IsRenewed-with}
+use Rattle.plum_pyramid.proofs.Renewals.{CanSay-all, IsWithout-away, IsRenewed-without}
+use Rattle.plum_pyramid.proofs.Renewals.{IsRenewed-with}
 use Rattle.plum_pyramid.proofs.Renewals.{next-ahead, next-within, greatest-parts, right-parts}
 use Rattle.plum_pyramid.proofs.Renewals.{without-parts, beyond-parts, maximum-parts, cell_read}
 use Rattle.plum_pyramid.proofs.renewing.+renew.Goals as goal
@@ -139,21 +141,22 @@ loop-part-preserved t c =
     inside is_next renewed in
     record {
       low = omega arith;
-      high = next-within layout laid values before after c.args.station.0 here part next below low inside
-          is_next renewed;
+      high =
+          next-within layout laid values before after c.args.station.0 here part next below low
+          inside is_next renewed;
       greatest =
-          greatest-parts layout laid values before after c.args.station.0 here part next below low inside
-          is_next renewed c.loop-part.greatest c.greater_of-greatest.result so_far.greatest
+          greatest-parts layout laid values before after c.args.station.0 here part next below low
+          inside is_next renewed c.loop-part.greatest c.greater_of-greatest.result so_far.greatest
           greater.one greater.first greater.second;
       right =
-          right-parts layout laid values before after c.args.station.0 here part next below low inside
-          is_next renewed so_far.right;
+          right-parts layout laid values before after c.args.station.0 here part next below low
+          inside is_next renewed so_far.right;
       without =
-          without-parts layout laid values before after c.args.station.0 here part next below low inside
-          is_next renewed so_far.without (omega arith);
+          without-parts layout laid values before after c.args.station.0 here part next below low
+          inside is_next renewed so_far.without (omega arith);
       beyond =
-          beyond-parts layout laid values before after c.args.station.0 here part next below low inside
-          is_next renewed c.args.maxima.now so_far.beyond;
+          beyond-parts layout laid values before after c.args.station.0 here part next below low
+          inside is_next renewed c.args.maxima.now so_far.beyond;
     }
 
 pub returns : goal.returns

@@ -16,7 +16,8 @@ returns c =
     let finds = c.near_stations_are_those_near.ensures in
     let members = layout.members.items in
     let greatest : IsGreatest (said_at values at) members 0 (length members) best =
-    subst (λ (vs : List (Option Tenths)). IsGreatest (said_at vs at) members 0 (length members) best)
+    subst (λ (vs : List (Option Tenths)).
+    IsGreatest (said_at vs at) members 0 (length members) best)
     c.as_slice.ensures.value c.best_at.ensures in
     let is : IsBest c.args.self.now.stations (value_in c.args.self.now.values) at best =
     subst (λ (p : PyramidView). IsBest p.stations (value_in p.values) at best) c.self.view_is

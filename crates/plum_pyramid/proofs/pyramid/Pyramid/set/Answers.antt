@@ -37,7 +37,8 @@ renew-requires-clause-maxima c =
     let layout = c.self.inside.layout in
     let values = c.self.inside.values.items in
     let number = c.args.station.0 in
-    subst (λ (vs : List (Option Tenths)). AreMaximaWithout layout vs c.as_mut_slice.result.now number)
+    subst (λ (vs : List (Option Tenths)).
+    AreMaximaWithout layout vs c.as_mut_slice.result.now number)
     (sym c.as_slice.ensures.value)
     (subst (λ (ms : List (Option Tenths)).
     AreMaximaWithout layout (set values number c.args.value) ms number)
@@ -61,7 +62,8 @@ invariant_of-self c =
     subst (λ (vs : List (Option Tenths)). IsRenewed layout vs c.as_mut_slice.result.now new 0)
     c.as_slice.ensures.value c.renew.ensures in
     let maxima : AreMaxima layout set_values new =
-    AreMaxima-renewed layout laid set_values c.as_mut_slice.result.now new (omega arith) renewed in (
+    AreMaxima-renewed layout laid set_values c.as_mut_slice.result.now new (omega arith) renewed
+    in (
       HasValues-set layout laid values c.args.station.0 c.args.value c.requires.scale has,
       subst (λ (ms : List (Option Tenths)). AreMaxima layout set_values ms)
           (sym (written_over c.self.inside.maxima.len old new as_long (omega arith))) maxima,
