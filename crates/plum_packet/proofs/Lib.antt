@@ -10,3 +10,4 @@ pub mod OneBody
 pub mod Taking
 pub mod Counted
 pub mod OneWay
+pub mod Telling

@@ -6,5 +6,6 @@ pub mod Encoding
 pub mod Segments
 pub mod Counts
 pub mod Reading
+pub mod Bodies
 pub mod Counting
 pub mod Laws

@@ -1,10 +1,10 @@
 -- How far a reader of segments has come.
-use Rattle.std.specs.Prelude.{◌≡◌, ℕ, ◌+◌, ◌<◌, List, [], ◌∷◌, ◌++◌, length, Option, Some}
+use Rattle.std.specs.Prelude.{◌≡◌, ℕ, ◌+◌, ◌<◌, ◌≤◌, List, [], ◌∷◌, ◌++◌, length, Option, Some}
 use Rattle.std.specs.List.{AllZip}
 use Rattle.plum_base.specs.declared.sites.StationSite.{StationSite}
 use Rattle.plum_packet.specs.declared.records.Progress.TheVariants.{Open, Ended}
 use Rattle.plum_packet.specs.declared.segment.Segment.{Segment}
-use Rattle.plum_packet.specs.Capture.{AreRecords}
+use Rattle.plum_packet.specs.Capture.{AreRecords, HasRecord}
 use Rattle.plum_packet.specs.Records.{RecordsView, StandsAt, tail_of}
 use Rattle.plum_packet.specs.Segments.{Decoded, segments_from, segments_of, IsDecodedSegment}
 use Rattle.plum_packet.specs.Segments.{packets_in, refused_in, IsCaptureOf}
@@ -64,6 +64,17 @@ MOST_RECORDS = 4294967294
 abbrev pub HasMoreRecords : List ℕ → ℕ → Type 0
 HasMoreRecords capture limit = (bodies : List (List ℕ)) × (rest : List ℕ)
     × AreRecords capture bodies rest × (limit < length bodies)
+
+-- Where this is left of the capture, no more records were taken than are read, and another is not
+-- whole.
+pub record IsWithinLimit (capture : List ℕ) (left : Option (List ℕ)) : Type 0 where
+  pub bodies : List (List ℕ)
+  pub ahead : List ℕ
+  pub rest : List ℕ
+  pub told : left ≡ Some rest
+  pub records : AreRecords capture bodies (ahead ++ rest)
+  pub few : length bodies ≤ MOST_RECORDS
+  pub no_more : ¬ HasRecord ahead
 
 -- Where a segment was given: another may come, or it was the last, nothing is left, and the capture
 -- has no more records than the reader takes.

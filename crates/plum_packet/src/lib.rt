@@ -7,6 +7,7 @@
 #![tactic(auto)]
 
 mod block;
+mod bodies;
 mod body;
 mod capture;
 mod counts;
@@ -17,6 +18,7 @@ mod records;
 mod segment;
 mod segments;
 
+pub use bodies::{Bodies, Found};
 pub use body::{DecodeFault, Head, MOST_SAMPLES, decode, inspect};
 pub use capture::bytes_are_one_capture;
 pub use counts::bodies_are_counted;

@@ -22,8 +22,8 @@ use std::marker::Model;
 /// How many bodies a segment holds at most. Marks are not counted.
 pub const SEGMENT_BODIES: u32 = 65_536;
 
-/// Why no segment was given: a read failed, the capture has more records than the reader takes, or
-/// memory was refused.
+/// Why no segment, or no body, was given: a read failed, the capture has more records than the
+/// reader takes, or memory was refused.
 #[derive(Clone, Copy, Debug, PartialEq, Eq)]
 pub enum SegmentFault {
     Read,

@@ -8,7 +8,7 @@ use Rattle.std.proofs.lemmas.List.Sums.{sum_by_push}
 use Rattle.std.specs.List.{flat_map, AllByRecursion}
 use Rattle.plum_packet.specs.Capture.{record_of, IsBody, AreRecords, HasRecord}
 use Rattle.plum_packet.specs.Records.{RecordsView}
-use Rattle.plum_packet.specs.Reading.{HasMoreRecords, TakesRecords, HasGiven}
+use Rattle.plum_packet.specs.Reading.{HasMoreRecords, TakesRecords, HasGiven, IsWithinLimit}
 use Rattle.plum_packet.specs.Segments.{Decoded}
 use Rattle.plum_base.specs.declared.sites.StationSite.{StationSite}
 use Rattle.plum_packet.specs.declared.records.Progress.{Progress}
@@ -17,7 +17,7 @@ use Rattle.plum_packet.specs.declared.segment.Segment.{Segment}
 use Rattle.plum_packet.specs.declared.segments.SegmentFault.{SegmentFault}
 use Rattle.plum_packet.specs.declared.segments.SegmentFault.TheVariants as segments
 use Rattle.plum_replay.specs.declared.fault.ReplayFault.TheVariants.{Read, Limit}
-use Rattle.plum_replay.specs.Captured.{all_bodies_in, IsWithinLimit}
+use Rattle.plum_replay.specs.Captured.{all_bodies_in}
 use Rattle.plum_replay.specs.Faults.{fault_of_segments}
 
 -- a reader that has not ended, nor met a record too many

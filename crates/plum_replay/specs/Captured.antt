@@ -1,12 +1,12 @@
 -- A capture that is read whole, or as far as a fault.
-use Rattle.std.specs.Prelude.{◌≡◌, ℕ, ◌≤◌, List, [], ◌++◌, length, sum_by, Option, Some, All}
+use Rattle.std.specs.Prelude.{◌≡◌, ℕ, List, [], sum_by, Some, All}
 use Rattle.std.specs.List.{AllZip}
 use Rattle.plum_base.specs.declared.sites.StationSite.{StationSite}
 use Rattle.plum_host.specs.declared.host.In.TheVariants.{Capture}
 use Rattle.plum_host.specs.Told.{HostView, WhereTold}
 use Rattle.plum_packet.specs.Reading.{MOST_RECORDS, HasMoreRecords, HoldsBodies, bodies_in}
+use Rattle.plum_packet.specs.Reading.{IsWithinLimit}
 use Rattle.plum_packet.specs.declared.segment.Segment.{Segment}
-use Rattle.plum_packet.specs.Capture.{AreRecords, HasRecord}
 use Rattle.plum_packet.specs.Segments.{Decoded, IsCaptureOf}
 use Rattle.plum_base.specs.Packet.{AreListed}
 
@@ -32,17 +32,6 @@ abbrev pub IsReadWhole : List StationSite → List Segment → ℕ → HostView 
 IsReadWhole stations segments tail before after = WhereTold before Capture (λ capture.
     (decoded : List (List Decoded)) × AllZip HoldsBodies segments decoded
     × IsCaptureOf stations capture decoded tail × IsReadToEnd after × HasNoneTooMany capture)
-
--- Where this is left of the capture, no more records were taken than a replay takes, and another is
--- not whole.
-pub record IsWithinLimit (capture : List ℕ) (left : Option (List ℕ)) : Type 0 where
-  pub bodies : List (List ℕ)
-  pub ahead : List ℕ
-  pub rest : List ℕ
-  pub told : left ≡ Some rest
-  pub records : AreRecords capture bodies (ahead ++ rest)
-  pub few : length bodies ≤ MOST_RECORDS
-  pub no_more : ¬ HasRecord ahead
 
 -- Where the host tells the capture: a read failed within the limit.
 abbrev pub FailsWithin : HostView → HostView → Type 0
