@@ -1,0 +1,4 @@
+pub mod Feeder
+pub mod Turns
+pub mod Rounds
+pub mod Centre

@@ -1,0 +1,71 @@
+-- What a turn of the feeder does (the project's own).
+use Rattle.std.specs.Prelude.{◌≡◌, ℕ, ◌+◌, ◌≤◌, ◌⊎◌, true, false, List, [], ◌∷◌, ◌++◌, length, map}
+use mathlib.Core.List.{IsPrefix}
+use Rattle.plum_base.specs.declared.entry.Entry.{Entry}
+use Rattle.plum_lanes.specs.declared.lanes.Lane.{Lane}
+use Rattle.plum_lanes.specs.Gathering.{gathered, IsGather, AreSettled, HoldsAllSent}
+use Rattle.plum_lanes.specs.Opening.{Opening}
+use Rattle.plum_centre.specs.declared.fed.Fed.{Fed}
+use Rattle.plum_centre.specs.declared.fed.Fed.TheVariants.{One, Published, Empty}
+use Rattle.plum_centre.specs.Feeder.{FeederView, BATCH, note_of}
+
+-- At least so many entries are pending.
+abbrev pub ArePending : ℕ → FeederView → Type 0
+ArePending count feeder = length feeder.published + count ≤ length feeder.appended
+
+-- The queue was empty at a moment of the turn: of what any lanes had sent when a round was closed
+-- last, nothing is missing.
+abbrev pub FoundEmpty : FeederView → FeederView → Type 0
+FoundEmpty before after =
+    (opening : Opening) (lanes : List Lane) → IsGather opening before.gather
+    → AreSettled lanes before.gather → HoldsAllSent lanes after.gather
+
+-- It gathered an entry, which is pending and noted then.
+pub record FeedsOne (before after : FeederView) : Type 0 where
+  pub entry : Entry
+  pub grew : gathered after.gather ≡ gathered before.gather ++ entry ∷ []
+  pub rest : after ≡ record before {
+    gather = after.gather;
+    appended = before.appended ++ entry ∷ [];
+    notes = before.notes ++ note_of entry ∷ [];
+  }
+
+-- It published all that was pending: because that was a whole batch, or because something was and
+-- the queue was empty.
+pub record FeedsBoard (before after : FeederView) : Type 0 where
+  pub cause : ArePending BATCH before ⊎ (ArePending 1 before × FoundEmpty before after)
+  pub kept : gathered after.gather ≡ gathered before.gather
+  pub rest : after ≡ record before { gather = after.gather; published = before.appended }
+
+-- The queue was empty, and nothing was pending.
+pub record FeedsNothing (before after : FeederView) : Type 0 where
+  pub none_pending : before.published ≡ before.appended
+  pub found : FoundEmpty before after
+  pub kept : gathered after.gather ≡ gathered before.gather
+  pub rest : after ≡ record before { gather = after.gather }
+
+-- what each answer of a turn tells
+abbrev pub IsFed : FeederView → Fed → FeederView → Type 0
+IsFed before One after = FeedsOne before after
+IsFed before Published after = FeedsBoard before after
+IsFed before Empty after = FeedsNothing before after
+
+-- No turn was refused memory, and this one did what it tells.
+pub record Feeds (before : FeederView) (fed : Fed) (after : FeederView) : Type 0 where
+  pub allowed : before.refused ≡ false
+  pub does : IsFed before fed after
+
+-- Memory was refused, and what is published is as before.
+pub record IsRefused (before after : FeederView) : Type 0 where
+  pub refused_then : after.refused ≡ true
+  pub published : after.published ≡ before.published
+
+-- The feeder went on, by one turn or by many: it gathered these more and, unless it was refused
+-- memory, noted them; what it published goes on.
+pub record GoesOn (before after : FeederView) : Type 0 where
+  pub more : List Entry
+  pub grew : gathered after.gather ≡ gathered before.gather ++ more
+  pub noted : after.refused ≡ false → after.notes ≡ before.notes ++ map note_of more
+  pub not_before : after.refused ≡ false → before.refused ≡ false
+  pub published_more : IsPrefix before.published after.published
+  pub same_publisher : after.publisher ≡ before.publisher
