@@ -44,9 +44,8 @@ module _ (opening : Opening) (lanes : List Lane) (before after : FeederView)
     (is_gather : IsGather opening before.gather) (settled : AreSettled lanes before.gather)
     (order : IsPublishedGathered after) where
   -- A turn that found nothing, once the lanes' round was closed, has found all that they sent.
-  IsDrained-nothing : before.refused ≡ false → FeedsNothing before after → IsDrained lanes after
-  IsDrained-nothing allowed_before does =
-      let allowed : after.refused ≡ false = ap (λ f. f.refused) does.rest ∙ allowed_before in
+  IsDrained-nothing : after.refused ≡ false → FeedsNothing before after → IsDrained lanes after
+  IsDrained-nothing allowed does =
       let appended : after.appended ≡ before.appended = ap (λ f. f.appended) does.rest in
       let published : after.published ≡ before.published = ap (λ f. f.published) does.rest in
       record {

@@ -50,9 +50,9 @@ IsFed before One after = FeedsOne before after
 IsFed before Published after = FeedsBoard before after
 IsFed before Empty after = FeedsNothing before after
 
--- No turn was refused memory, and this one did what it tells.
+-- The turn did what it tells, and no turn was refused memory.
 pub record Feeds (before : FeederView) (fed : Fed) (after : FeederView) : Type 0 where
-  pub allowed : before.refused ≡ false
+  pub allowed : after.refused ≡ false
   pub does : IsFed before fed after
 
 -- Memory was refused, and what is published is as before.
