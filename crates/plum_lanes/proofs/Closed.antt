@@ -14,7 +14,8 @@ use Rattle.plum_core.specs.Laws.{FrontOfLane}
 use Rattle.plum_lanes.specs.declared.gatherer.Gather.{Gather}
 use Rattle.plum_lanes.specs.declared.lanes.Lane.{Lane}
 use Rattle.plum_lanes.specs.declared.rule.View.{View}
-use Rattle.plum_lanes.specs.Rule.{IsGatheredThen, StartsWith, settled_at}
+use mathlib.Core.List.{IsPrefix}
+use Rattle.plum_lanes.specs.Rule.{IsGatheredThen, settled_at}
 use Rattle.plum_lanes.specs.Opening.{Opening}
 use Rattle.plum_lanes.specs.Lanes.{sent, BelongsTo, IsLane, StandForTaken, HasTaken, AreLanes}
 use Rattle.plum_lanes.specs.Gathering.{gathered}
@@ -111,8 +112,8 @@ no_more all front rest queued all_is front_is =
     empty (e ∷ es) is = cc
 
 -- With no pass out, what is settled of a lane is all that was gathered and queued of it.
-pub settled_is : FrontOfLane → (v : View) (queued : List Entry) → IsGatheredThen v queued → v.out ≡ 0
-    → (lane : ℕ) (out all : List Entry) (settled : List (List Entry))
+pub settled_is : FrontOfLane → (v : View) (queued : List Entry) → IsGatheredThen v queued
+    → v.out ≡ 0 → (lane : ℕ) (out all : List Entry) (settled : List (List Entry))
     → out ≡ settled_at settled lane → settled ≡ v.settled → all ≡ v.gathered
     → out ≡ entries_of_lane lane all ++ entries_of_lane lane queued
 settled_is fronts v queued known returned lane out all settled out_is lists_are all_is =
@@ -123,6 +124,7 @@ settled_is fronts v queued known returned lane out all settled out_is lists_are 
 -- Where all that was sent is gathered, each lane's entries there are what it sent.
 pub all_gathered : (lane : ℕ) (out gathered queued : List Entry)
     → out ≡ entries_of_lane lane gathered ++ entries_of_lane lane queued
-    → StartsWith (entries_of_lane lane gathered) out → out ≡ entries_of_lane lane gathered
+    → IsPrefix out (entries_of_lane lane gathered) → out ≡ entries_of_lane lane gathered
 all_gathered lane out gathered queued is front =
-    no_more (entries_of_lane lane gathered) out front.0 (entries_of_lane lane queued) front.1 is
+    no_more (entries_of_lane lane gathered) out front.0 (entries_of_lane lane queued) (sym front.1)
+    is

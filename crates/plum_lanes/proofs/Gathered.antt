@@ -1,5 +1,6 @@
 -- What a pop tells of all that was sent.
-use Rattle.std.proofs.Common.{◌≡◌, true, List, [], ◌∷◌, ◌++◌, length, append-nil, Option, Some, None}
+use Rattle.std.proofs.Common.{◌≡◌, true, List, [], ◌∷◌, ◌++◌, length, append-nil, Option, Some}
+use Rattle.std.proofs.Common.{None}
 use Rattle.std.proofs.Common.{refl, sym, ◌∙◌, ap, subst}
 use Rattle.std.specs.Prelude.{MatchOption, IfNone}
 use Rattle.crossbeam_queue.specs.Fifo.{Held}
@@ -67,7 +68,8 @@ all_after once opening lanes before after None known settled told =
           let all : gathered after ≡ v.gathered ++ [] =
           ap (λ (u : View). u.gathered) told.0 ∙ sym (append-nil v.gathered) in (
             front.0,
-            ap (entries_of_lane i) all ∙ front.1 ∙ ap (λ es. es ++ front.0) (settled i d within),
+            ap (λ es. es ++ front.0) (sym (settled i d within)) ∙ front.1
+                ∙ ap (entries_of_lane i) (sym all),
           );
       once = once opening.basis.setup opening.basis.stations (gathered after) valid;
     }

@@ -47,8 +47,9 @@ module _ (n : ℕ) (k : Basis) (v : View) (may : v.gathers ≡ true) (known : v.
     each : (j : ℕ) (u : View) → get_elem? (set views n after) j ≡ some u
         → Fits r.basis r.gatherer_pass r.out gathered r.settled r.lane_pass (gathered ++ queue) j u
     each =
-        all_set (Fits r.basis r.gatherer_pass r.out gathered r.settled r.lane_pass (gathered ++ queue)) views n
-        after (
+        all_set
+        (Fits r.basis r.gatherer_pass r.out gathered r.settled r.lane_pass (gathered ++ queue))
+        views n after (
           (λ _. (
             mine.0,
             ap (λ (u : View). gatherer u.basis (u.gathered ++ e ∷ []) u.out u.settled) mine.1,
@@ -75,7 +76,7 @@ module _ (n : ℕ) (k : Basis) (v : View) (may : v.gathers ≡ true) (known : v.
       queue_bounded = bounded;
       front = λ lane.
           let before = r.front lane in
-          (before.0, ap (entries_of_lane lane) (sym joined) ∙ before.1);
+          (before.0, before.1 ∙ ap (entries_of_lane lane) joined);
       returned = λ lane le. r.returned lane le ∙ ap (entries_of_lane lane) joined;
       each = each;
     }

@@ -13,7 +13,8 @@ use Rattle.plum_base.specs.declared.entry.Entry.{Entry}
 use Rattle.plum_core.specs.History.{entries_of_lane}
 use Rattle.plum_lanes.specs.declared.rule.Basis.{Basis}
 use Rattle.plum_lanes.specs.declared.rule.View.{View}
-use Rattle.plum_lanes.specs.Rule.{StartsWith, settled_at, settle, gatherer, sender, spent, IsRuled}
+use mathlib.Core.List.{IsPrefix}
+use Rattle.plum_lanes.specs.Rule.{settled_at, settle, gatherer, sender, spent, IsRuled}
 use Rattle.plum_lanes.specs.Rule.{Holds}
 use Rattle.plum_lanes.proofs.Views.{Fits, spent-fits, off, all_set, at_end, ruled_of, settled-same}
 use Rattle.plum_lanes.proofs.Views.{settled-other}
@@ -22,12 +23,15 @@ use Rattle.plum_lanes.proofs.Views.{settled-other}
 abbrev lane_pass_with : (ℕ → ℕ) → ℕ → ℕ → ℕ → ℕ
 lane_pass_with lane_pass out pass lane = if lane == out then pass else lane_pass lane
 
-lane_pass_with-same : (lane_pass : ℕ → ℕ) (out pass lane : ℕ) → lane ≡ out → lane_pass_with lane_pass out pass lane ≡ pass
-lane_pass_with-same lane_pass out pass lane e = ap (λ b. if b then pass else lane_pass lane) (eq-eqb lane out e)
+lane_pass_with-same : (lane_pass : ℕ → ℕ) (out pass lane : ℕ) → lane ≡ out
+    → lane_pass_with lane_pass out pass lane ≡ pass
+lane_pass_with-same lane_pass out pass lane e =
+    ap (λ b. if b then pass else lane_pass lane) (eq-eqb lane out e)
 
 lane_pass_with-other : (lane_pass : ℕ → ℕ) (out pass lane : ℕ) → lane ≢ out
     → lane_pass_with lane_pass out pass lane ≡ lane_pass lane
-lane_pass_with-other lane_pass out pass lane e = ap (λ b. if b then pass else lane_pass lane) (ne_eqb lane out e)
+lane_pass_with-other lane_pass out pass lane e =
+    ap (λ b. if b then pass else lane_pass lane) (ne_eqb lane out e)
 
 module _ (n : ℕ) (k : Basis) (v : View) (may : v.gathers ≡ true) (known : v.basis ≡ Some k) where
   -- ---- a lane's pass leaves
@@ -189,14 +193,13 @@ module _ (n : ℕ) (k : Basis) (v : View) (may : v.gathers ≡ true) (known : v.
                 (omega arith, t.1, t.2, t.3),
           ))
 
-      front_then : (lane : ℕ) → StartsWith (entries_of_lane lane sent_all) (settled_at settled lane)
+      front_then : (lane : ℕ) → IsPrefix (settled_at settled lane) (entries_of_lane lane sent_all)
       front_then lane = elim (ℕ_discrete lane u.lane) [
-        | yes e ↦ ([], sym (settled_all lane e) ∙ sym (append-nil (settled_at settled lane)))
+        | yes e ↦ ([], append-nil (settled_at settled lane) ∙ settled_all lane e)
         | no e ↦
             let before = r.front lane in (
               before.0,
-              before.1
-                  ∙ ap (λ es. es ++ before.0) (sym (settled-other r.settled u.lane lane u.sent e)),
+              ap (λ es. es ++ before.0) (settled-other r.settled u.lane lane u.sent e) ∙ before.1,
             )
       ]
 
@@ -223,7 +226,8 @@ module _ (n : ℕ) (k : Basis) (v : View) (may : v.gathers ≡ true) (known : v.
         returned = returned_then;
         each =
             all_set FitsThen (set views n both) other spent
-            (spent-fits r.basis r.gatherer_pass u.lane r.gathered settled r.lane_pass sent_all other)
+            (spent-fits r.basis r.gatherer_pass u.lane r.gathered settled r.lane_pass sent_all
+            other)
             (λ j y far is. others_fit j y is far);
       }
 
@@ -254,6 +258,7 @@ spares n k v known items views h at =
           r.each j u (subst (λ l. get_elem? l j ≡ some u) (set_again views n v at) was))
           (λ (new : spent ≡ u).
           subst (FitsAs j) new
-          (spent-fits r.basis r.gatherer_pass r.out r.gathered r.settled r.lane_pass (r.gathered ++ items) j))
+          (spent-fits r.basis r.gatherer_pass r.out r.gathered r.settled r.lane_pass
+          (r.gathered ++ items) j))
           (at_snoc (set views n v) spent u j is);
     })

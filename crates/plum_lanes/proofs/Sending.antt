@@ -11,7 +11,8 @@ use Rattle.plum_core.specs.History.{entries_of_lane}
 use Rattle.plum_core.specs.Laws.{NextEntryJoins, OrderJoins, OrderStays, FrontOfLane}
 use Rattle.plum_lanes.specs.declared.rule.Basis.{Basis}
 use Rattle.plum_lanes.specs.declared.rule.View.{View}
-use Rattle.plum_lanes.specs.Rule.{IsValid, IsNext, StartsWith, settled_at, sender, IsRuled, Holds}
+use mathlib.Core.List.{IsPrefix}
+use Rattle.plum_lanes.specs.Rule.{IsValid, IsNext, settled_at, sender, IsRuled, Holds}
 use Rattle.plum_lanes.specs.Rule.{IsSentThen}
 use Rattle.plum_lanes.proofs.Views.{Fits, off, all_set, ruled_for, Some-injective}
 
@@ -55,13 +56,14 @@ module _ (joins : NextEntryJoins) (orders : OrderJoins) (others : OrderStays)
         let bound : cap ≡ r.basis.setup.queue = right.0 in
         omega (arith, length-append queue (e ∷ []))
 
-    front : (lane : ℕ) → StartsWith (entries_of_lane lane more) (settled_at r.settled lane)
+    front : (lane : ℕ) → IsPrefix (settled_at r.settled lane) (entries_of_lane lane more)
     front lane =
         let before = r.front lane in
         let new = entries_of_lane lane (e ∷ []) in (
           before.0 ++ new,
-          ap (entries_of_lane lane) (sym joined) ∙ appends lane all (e ∷ [])
-              ∙ ap (λ es. es ++ new) before.1 ∙ append_assoc (settled_at r.settled lane) before.0 new,
+          sym (append_assoc (settled_at r.settled lane) before.0 new)
+              ∙ ap (λ es. es ++ new) before.1 ∙ sym (appends lane all (e ∷ []))
+              ∙ ap (entries_of_lane lane) joined,
         )
 
     returned : (lane : ℕ) → r.out ≤ lane → settled_at r.settled lane ≡ entries_of_lane lane more
@@ -73,7 +75,8 @@ module _ (joins : NextEntryJoins) (orders : OrderJoins) (others : OrderStays)
     each : (j : ℕ) (u : View) → get_elem? (set views n after) j ≡ some u
         → Fits r.basis r.gatherer_pass r.out r.gathered r.settled r.lane_pass more j u
     each =
-        all_set (Fits r.basis r.gatherer_pass r.out r.gathered r.settled r.lane_pass more) views n after (
+        all_set (Fits r.basis r.gatherer_pass r.out r.gathered r.settled r.lane_pass more) views n
+        after (
           (λ p. absurd (off p)),
           (λ _. (
             mine.0,

@@ -10,7 +10,8 @@ use Rattle.crossbeam_queue.proofs.Lists.{at_set}
 use Rattle.plum_base.specs.declared.entry.Entry.{Entry}
 use Rattle.plum_lanes.specs.declared.rule.Basis.{Basis}
 use Rattle.plum_lanes.specs.declared.rule.View.{View}
-use Rattle.plum_lanes.specs.Rule.{settled_at, settle, blank, spent, FitsGatherer, FitsSender, IsRuled}
+use Rattle.plum_lanes.specs.Rule.{settled_at, settle, blank, spent, FitsGatherer, FitsSender}
+use Rattle.plum_lanes.specs.Rule.{IsRuled}
 use Rattle.plum_lanes.specs.Rule.{Holds}
 
 -- ---- lists
@@ -29,7 +30,8 @@ at_end (x ∷ xs) a b (suc j) e =
 
 -- ---- what is settled
 
-pub settled-same : (xs : List (List Entry)) (n : ℕ) (s : List Entry) → settled_at (settle xs n s) n ≡ s
+pub settled-same : (xs : List (List Entry)) (n : ℕ) (s : List Entry)
+    → settled_at (settle xs n s) n ≡ s
 settled-same [] zero s = refl
 settled-same [] (suc n) s = settled-same [] n s
 settled-same (x ∷ xs) zero s = refl
@@ -52,7 +54,8 @@ settled-other (x ∷ xs) (suc n) (suc m) s apart = settled-other xs n m s (λ e.
 abbrev pub Fits : Basis → ℕ → ℕ → List Entry → List (List Entry) → (ℕ → ℕ) → List Entry → ℕ → View
     → Type 0
 Fits basis gatherer_pass out gathered settled lane_pass all pass v =
-    FitsGatherer basis gatherer_pass gathered out settled pass v × FitsSender basis out lane_pass all pass v
+    FitsGatherer basis gatherer_pass gathered out settled pass v
+    × FitsSender basis out lane_pass all pass v
 
 pub off : false ≡ true → ⊥
 off e = true≢false (sym e)

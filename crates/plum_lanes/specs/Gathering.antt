@@ -9,7 +9,8 @@ use Rattle.plum_lanes.specs.declared.gatherer.Gather.{Gather}
 use Rattle.plum_lanes.specs.declared.lanes.Lane.{Lane}
 use Rattle.plum_lanes.specs.Lanes.{sent}
 use Rattle.plum_lanes.specs.Opening.{Opening}
-use Rattle.plum_lanes.specs.Rule.{StartsWith, settled_at}
+use mathlib.Core.List.{IsPrefix}
+use Rattle.plum_lanes.specs.Rule.{settled_at}
 
 -- what it gathered since the opening, in order
 abbrev pub gathered : Gather → List Entry
@@ -31,8 +32,8 @@ pub record IsGatherOf (opening : Opening) (gather : Gather) : Type 0 where
   pub gathers : (view gather.pass).gathers ≡ true
   pub basis_is : (view gather.pass).basis ≡ Some opening.basis
 
--- It is the gatherer of this opening, whose lanes all have their passes. What it gathered is a valid
--- history.
+-- It is the gatherer of this opening, whose lanes all have their passes. What it gathered is a
+-- valid history.
 pub record IsGather (opening : Opening) (gather : Gather) : Type 0 where
   pub gather_of : IsGatherOf opening gather
   pub out : out_of gather ≡ opening.basis.setup.lanes
@@ -48,7 +49,7 @@ AreSettled lanes gather =
 -- Every entry that these lanes sent is gathered, in the order of its lane, and none is there twice.
 pub record HoldsAllSent (lanes : List Lane) (gather : Gather) : Type 0 where
   pub each : (i : ℕ) (d : Lane) → i < length lanes
-      → StartsWith (entries_of_lane i (gathered gather)) (sent (slice_index_or lanes i d))
+      → IsPrefix (sent (slice_index_or lanes i d)) (entries_of_lane i (gathered gather))
   pub once : IsEachOnce (gathered gather)
 
 -- What each lane sent is its entries in the gathered list: all of them, and no more.

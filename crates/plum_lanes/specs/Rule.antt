@@ -2,6 +2,7 @@
 -- gathered and what is queued are one valid history, and what each lane sent is its entries there.
 use Rattle.std.specs.Prelude.{◌≡◌, ℕ, zero, suc, ◌<◌, ◌≤◌, ◌⊎◌, true, false, List, [], ◌∷◌, ◌++◌}
 use Rattle.std.specs.Prelude.{Option, Some, None, IsSome}
+use mathlib.Core.List.{IsPrefix}
 use mathlib.Core.Option.{some}
 use lib.ListN.{get_elem?}
 use Rattle.crossbeam_queue.specs.declared.array_queue.Doing.{Doing}
@@ -20,10 +21,6 @@ IsValid basis history = IsValidHistory basis.setup basis.stations history
 -- The entry is correct after those before it.
 abbrev pub IsNext : Basis → List Entry → Entry → Type 0
 IsNext basis earlier e = IsEntryAfter basis.setup basis.stations earlier e
-
--- The list begins with this front.
-abbrev pub StartsWith : List Entry → List Entry → Type 0
-StartsWith entries front = (rest : List Entry) × (entries ≡ front ++ rest)
 
 -- the list that is settled for a lane: what it sent, as the gatherer learned it last; empty where
 -- none is
@@ -107,7 +104,7 @@ pub record IsRuled (queue : List Entry) (views : List View) : Type 0 where
   pub queue_bounded : IsQueueBounded basis.setup.queue queue
   -- What is settled of a lane is a front of its entries, and all of them where its pass is back.
   pub front : (lane : ℕ)
-      → StartsWith (entries_of_lane lane (gathered ++ queue)) (settled_at settled lane)
+      → IsPrefix (settled_at settled lane) (entries_of_lane lane (gathered ++ queue))
   pub returned : (lane : ℕ) → out ≤ lane
       → settled_at settled lane ≡ entries_of_lane lane (gathered ++ queue)
   pub each : (pass : ℕ) (v : View) → get_elem? views pass ≡ some v
@@ -128,7 +125,7 @@ pub record IsGatheredThen (v : View) (queue : List Entry) : Type 0 where
   pub valid : (basis : Basis) → v.basis ≡ Some basis → IsValid basis (v.gathered ++ queue)
   pub bounded : (basis : Basis) → v.basis ≡ Some basis → IsQueueBounded basis.setup.queue queue
   pub front : (lane : ℕ)
-      → StartsWith (entries_of_lane lane (v.gathered ++ queue)) (settled_at v.settled lane)
+      → IsPrefix (settled_at v.settled lane) (entries_of_lane lane (v.gathered ++ queue))
   pub returned : (lane : ℕ) → v.out ≤ lane
       → settled_at v.settled lane ≡ entries_of_lane lane (v.gathered ++ queue)
 

@@ -83,8 +83,8 @@ fn reissue_all(lanes: &mut [Lane], gather: &mut Gather)
     ensures gather { IsSameGather gather.old gather.new }
     ensures out { out_of gather.new ≡ length lanes.old }
     ensures settled { settled_of gather.new ≡ settled_of gather.old }
-    ensures lanes { (opening : Opening) → AllBelong opening lanes.old → IsGatherOf opening gather.old
-        → (i : ℕ) (d : Lane) → i < length lanes.old
+    ensures lanes { (opening : Opening) → AllBelong opening lanes.old
+        → IsGatherOf opening gather.old → (i : ℕ) (d : Lane) → i < length lanes.old
         → IsLane opening i (slice_index_or lanes.new i d) }
     ensures sent { (i : ℕ) (d : Lane) → i < length lanes.old
         → sent (slice_index_or lanes.new i d) ≡ settled_at (settled_of gather.old) i }

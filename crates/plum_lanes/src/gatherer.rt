@@ -28,7 +28,8 @@ impl Gather {
     /// closed last.
     pub fn next<R: Wait>(&mut self, rt: &R) -> Option<Entry>
         requires { (opening : Opening) × IsGather opening self.old }
-        ensures gather { (opening : Opening) → IsGather opening self.old → IsGather opening self.new }
+        ensures gather { (opening : Opening) → IsGather opening self.old
+            → IsGather opening self.new }
         ensures gathered { gathered self.new ≡ gathered self.old ++ option_to_list result }
         ensures settled { settled_of self.new ≡ settled_of self.old }
         ensures all { (opening : Opening) (lanes : List Lane) → IsGather opening self.old

@@ -82,8 +82,8 @@ impl Lane {
         self.repeats
     }
 
-    /// Offers the entry that waits to the queue. `Busy` where the queue was full; the entry waits on
-    /// then.
+    /// Offers the entry that waits to the queue. `Busy` where the queue was full; the entry waits
+    /// on then.
     pub fn offer<R: Wait>(&mut self, rt: &R) -> Offered
         requires waits { IsSome (waiting_in self.old) }
         requires lane { (opening : Opening) × (number : ℕ) × (taken : List Packet)

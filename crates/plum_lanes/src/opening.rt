@@ -2,6 +2,7 @@
 
 ghost use Rattle.std.specs.Prelude.{◌≡◌, ℕ, ◌+◌, ◌/◌, ◌<◌, ◌≤◌, ◌↔◌, [], length, All, IfOk};
 ghost use Rattle.plum_base.specs.Lane.{lane_of};
+ghost use Rattle.plum_base.specs.Sites.{MOST_STATIONS};
 ghost use Rattle.plum_core.specs.Station.{Stands};
 ghost use Rattle.plum_lanes.specs.Opening.{Opening, basis_of};
 ghost use Rattle.plum_lanes.specs.Lanes.{IsLane, StandForTaken};
@@ -32,7 +33,7 @@ fn stations(alloc: Global, setup: &Setup, count: usize) -> Result<Vec<Station>, 
 /// How many of so many stations a lane has. Station s of the lane stands at position s / lanes.
 fn share(stations: usize, lanes: u16, number: LaneNo) -> usize
     requires lanes { number.0 < lanes }
-    requires stations { stations ≤ 4096 }
+    requires stations { stations ≤ MOST_STATIONS }
     ensures { (s : ℕ) → lane_of lanes s ≡ number.0 → s < stations ↔ s / lanes < result }
 {
     (stations + lanes as usize - 1 - number.0 as usize) / lanes as usize

@@ -130,5 +130,5 @@ returns-clause-all c = λ holds i d less.
     let same = all ∙ recall.gather.gathered in
     all_gathered i _ _ look.fact.0 is (
       front.0,
-      ap (entries_of_lane i) same ∙ front.1 ∙ ap (λ es. es ++ front.0) (sym sent_is.sent_is),
+      ap (λ es. es ++ front.0) sent_is.sent_is ∙ front.1 ∙ ap (entries_of_lane i) (sym same),
     )

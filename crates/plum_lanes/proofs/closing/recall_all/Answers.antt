@@ -46,7 +46,8 @@ loop-left-preserved c =
     let e = get_or lanes k d0 in
     let now = c.recall.new.lane in
     let out_is : out_of c.recall.new.gather ≡ k = omega arith in
-    let settled : settled_of c.recall.new.gather ≡ settle (settled_of c.loop-left.gather) k (sent e) =
+    let settled :
+    settled_of c.recall.new.gather ≡ settle (settled_of c.loop-left.gather) k (sent e) =
     c.recall.ensures.settled ∙ ap (λ m. settle (settled_of c.loop-left.gather) m (sent e)) out_is in
     let first : (i : ℕ) (d : Lane) → i ≡ k → e ≡ get_or start i d = λ i d q.
     get_or_default lanes k d0 d within ∙ inv.below k d below
@@ -61,7 +62,8 @@ loop-left-preserved c =
           get_or-set_other lanes k i now d apart ∙ inv.below i d (omega arith);
       above = λ i d from inside. elim (ℕ_discrete i k) [
         | yes q ↦
-            ap (settled_at (settled_of c.recall.new.gather)) q ∙ ap (λ lists. settled_at lists k) settled
+            ap (settled_at (settled_of c.recall.new.gather)) q
+            ∙ ap (λ lists. settled_at lists k) settled
             ∙ settled-same (settled_of c.loop-left.gather) k (sent e) ∙ ap sent (first i d q)
         | no q ↦
             ap (λ lists. settled_at lists i) settled

@@ -67,6 +67,6 @@ returns c =
       opening,
       basis,
       AreNew-all opening _ _
-          (subst (λ n. AreNewUpTo opening n c.loop-number.lanes.items c.loop-number.gather) lanes_are
-          c.loop-number.invariant.2),
+          (subst (λ n. AreNewUpTo opening n c.loop-number.lanes.items c.loop-number.gather)
+          lanes_are c.loop-number.invariant.2),
     )
