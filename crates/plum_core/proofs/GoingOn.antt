@@ -258,8 +258,8 @@ module _ (setup : Setup) (sites : SitesView) where
                 })
           ]
 
-      -- The fronts of the new ones hold all up to their mark, and are within the journal, which ends
-      -- at the next mark.
+      -- The fronts of the new ones hold all up to their mark, and are within the journal, which
+      -- ends at the next mark.
       bounds_read_on : (m a : ℕ) (reading : Reading) → IsReadingAt read_on m a reading
           → (length (entries_up_to m t) ≤ reading.front)
           × (reading.front ≤ length (entries_up_to (m + 1) t))
@@ -291,8 +291,8 @@ module _ (setup : Setup) (sites : SitesView) where
                 (targets_of name sites.targets) reading.answers) same new.from.answers
           ]
 
-      -- The readings at one mark more join. A front is at most the journal at the next mark, which is
-      -- at most the next front.
+      -- The readings at one mark more join. A front is at most the journal at the next mark, which
+      -- is at most the next front.
       pub readings_join : IsLegalOver setup sites segments (read + 1) read_on
       readings_join = record {
         valid = legal.valid;

@@ -24,7 +24,7 @@ use Rattle.plum_core.specs.Station.{Stands, Gives, waiting_of}
 use Rattle.plum_core.specs.Facts.{IsInLaneOrder, IsBacklog, KeepsFacts}
 use Rattle.plum_core.specs.Machine.{State, start, step, state_after, waiting_after, AreReplies}
 use Rattle.plum_core.specs.Machine.{IsReadAt, NamesExist}
-use Rattle.plum_core.specs.Transcript.{Transcript, entries_up_to, journal_of}
+use Rattle.plum_core.specs.Transcript.{Transcript, entries_up_to, journal_of, no_transcript}
 use Rattle.plum_base.specs.Sites.{targets_of}
 use Rattle.plum_core.specs.Transcript.{of_lane, HoldsByLane, HoldsKeptByLane, ArePredictions}
 use Rattle.plum_core.specs.Transcript.{IsLegal, IsLegalUpTo, IsLegalOver, AreReadingsOver}
@@ -76,7 +76,7 @@ LegalShows = (setup : Setup) (sites : SitesView) (segments : List (List Packet))
 -- Nothing is legal for no segments.
 abbrev pub LegalAtStart : Type 0
 LegalAtStart = (setup : Setup) (sites : SitesView)
-    → IsLegal setup sites [] (record { parts = []; readings = [] })
+    → IsLegal setup sites [] no_transcript
 
 -- The kept packets of a lane are the kept ones of its packets.
 abbrev pub KeptByLane : Type 0

@@ -21,6 +21,10 @@ pub record Transcript : Type 0 where
   pub parts : List (List Entry)
   pub readings : List (List Reading)
 
+-- the transcript of no segments: nothing was said
+abbrev pub no_transcript : Transcript
+no_transcript = record { parts = []; readings = [] }
+
 -- the entries of the first m segments
 abbrev pub entries_up_to : ℕ → Transcript → List Entry
 entries_up_to m t = flat_map (λ part. part) (take m t.parts)

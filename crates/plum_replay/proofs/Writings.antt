@@ -14,7 +14,8 @@ use Rattle.plum_core.specs.Transcript.{with_part, with_readings}
 use Rattle.plum_text.specs.Texts.{Section}
 use Rattle.plum_replay.specs.declared.centre.Centre.{Centre}
 use Rattle.plum_replay.specs.declared.centre.Told.{Told}
-use Rattle.plum_replay.specs.Centre.{HasReplayed, ReplaysOneMore, no_transcript}
+use Rattle.plum_core.specs.Transcript.{no_transcript}
+use Rattle.plum_replay.specs.Centre.{HasReplayed, ReplaysOneMore}
 use Rattle.plum_replay.specs.Parts.{sections_text}
 use Rattle.plum_replay.specs.Written.{but_last, HasWritten}
 use Rattle.plum_replay.proofs.Marks.{AreSections-nil}

@@ -63,10 +63,6 @@ pub record HasReplayed (centre : Centre) (setup : Setup) (sites : SitesView)
   pub counts : centre.counts ≡ totals_of sections
   pub kept : centre.counts.kept ≡ length (journal_of t)
 
--- before the first segment
-abbrev pub no_transcript : Transcript
-no_transcript = record { parts = []; readings = [] }
-
 -- One segment more was replayed: its entries joined the journal, and then the readings at its mark.
 -- These are the texts that this adds.
 pub record ReplaysOneMore (setup : Setup) (sites : SitesView) (segments : List (List Decoded))

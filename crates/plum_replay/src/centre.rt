@@ -4,10 +4,8 @@ ghost use Rattle.std.specs.Prelude.{◌≡◌, ◌+◌, ◌-◌, ◌≤◌, ◌<
 ghost use Rattle.std.specs.Prelude.{IfOk};
 ghost use Rattle.std.specs.Prelude.{OnOk};
 ghost use Rattle.plum_base.specs.Counts.{AddUp};
-ghost use Rattle.plum_base.specs.declared.entry.Entry.{Entry};
 ghost use Rattle.plum_base.specs.declared.packet.Packet.{Packet};
 ghost use Rattle.plum_base.specs.Sites.{SitesView};
-ghost use Rattle.plum_text.specs.Texts.{note_of};
 ghost use Rattle.plum_board.specs.Board.{StandsFor};
 ghost use Rattle.plum_base.specs.Packet.{AreListed};
 ghost use Rattle.plum_core.specs.Station.{HasTaken, size_of};
@@ -21,7 +19,7 @@ use crate::reading::read_areas;
 use crate::section::{Section, put_section};
 use crate::totals::Totals;
 use plum_alert::Desk;
-use plum_base::{Bytes, Counts, Entry, NoMemory, Note, Notes, Packet, Setup, Sites, TargetNo};
+use plum_base::{Bytes, Counts, NoMemory, Notes, Packet, Setup, Sites, TargetNo, note_of};
 use plum_board::Board;
 use plum_core::{Network, Taken, histories, legal_transcripts};
 use plum_packet::{Segment, bodies_are_counted};
@@ -44,18 +42,6 @@ pub struct Centre {
 pub struct Told {
     pub journal: Bytes,
     pub section: Bytes,
-}
-
-/// An entry without its samples.
-fn note_of(entry: &Entry) -> Note
-    ensures { result ≡ note_of entry.now }
-{
-    Note {
-        station: entry.station,
-        key: entry.key,
-        fresh: entry.fresh,
-        value: entry.value,
-    }
 }
 
 /// The stations take packets, and the board the entries of the kept ones. A note of each of these
@@ -128,9 +114,8 @@ impl Centre {
     ghost use Rattle.plum_packet.specs.Reading.{HoldsBodies, bodies_in};
     ghost use Rattle.plum_packet.specs.Segments.{Decoded};
     ghost use Rattle.plum_text.specs.Texts.{Section};
-    ghost use Rattle.plum_core.specs.Transcript.{Transcript};
+    ghost use Rattle.plum_core.specs.Transcript.{Transcript, no_transcript};
     ghost use Rattle.plum_replay.specs.Centre.{IsCentreOf, HasReplayed, ReplaysOneMore};
-    ghost use Rattle.plum_replay.specs.Centre.{no_transcript};
     ghost use Rattle.plum_replay.specs.Replayed.{counts_in_all};
 
     /// A centre that replayed nothing. It takes the memory of its stations, its board, its targets

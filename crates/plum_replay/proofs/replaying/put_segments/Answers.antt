@@ -10,7 +10,8 @@ use Rattle.plum_host.specs.declared.host.To.TheVariants.{Out, Journal}
 use Rattle.plum_packet.specs.Reading.{HoldsBodies, bodies_in}
 use Rattle.plum_base.specs.Packet.{AreListed}
 use Rattle.plum_packet.specs.Segments.{Decoded}
-use Rattle.plum_replay.specs.Centre.{HasReplayed, ReplaysOneMore, no_transcript}
+use Rattle.plum_core.specs.Transcript.{no_transcript}
+use Rattle.plum_replay.specs.Centre.{HasReplayed, ReplaysOneMore}
 use Rattle.plum_replay.specs.Written.{HasWritten}
 use Rattle.plum_replay.proofs.Stopping.{stops_between, stops_part, stops_section}
 use Rattle.plum_replay.proofs.Writings.{written-nil, written-more, first_zipped, none_zipped}

@@ -7,7 +7,8 @@ use Rattle.plum_host.specs.declared.host.In.{In}
 use Rattle.plum_packet.specs.Reading.{MOST_RECORDS, HoldsBodies}
 use Rattle.plum_packet.specs.Segments.{Decoded}
 use Rattle.plum_replay.specs.Captured.{all_bodies_in, HoldListed}
-use Rattle.plum_replay.specs.Centre.{IsCentreOf, HasReplayed, no_transcript}
+use Rattle.plum_core.specs.Transcript.{no_transcript}
+use Rattle.plum_replay.specs.Centre.{IsCentreOf, HasReplayed}
 use Rattle.plum_replay.specs.Written.{HasWritten}
 use Rattle.plum_replay.proofs.replaying.put_segments.Given as goal
 
