@@ -25,7 +25,8 @@ use Rattle.plum_core.specs.Transcript.{journal_of, of_lane, HoldsByLane, with_pa
 use Rattle.plum_core.specs.Transcript.{with_readings}
 use Rattle.plum_board.specs.Board.{StandsFor}
 use Rattle.plum_alert.specs.Desk.{StandsFor as DeskStandsFor}
-use Rattle.plum_text.specs.Texts.{Section, note_of, journal_text}
+use Rattle.plum_base.specs.Note.{note_of}
+use Rattle.plum_text.specs.Texts.{Section, journal_text}
 use Rattle.plum_replay.specs.declared.centre.Centre.{Centre}
 use Rattle.plum_replay.specs.declared.centre.Told.{Told}
 use Rattle.plum_replay.specs.Centre.{AreDesks, AreNext, given_with, HasReplayed, ReplaysOneMore}

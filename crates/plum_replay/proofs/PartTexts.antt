@@ -21,7 +21,8 @@ use Rattle.plum_base.specs.Sites.{areas_of}
 use Rattle.plum_text.specs.declared.lines.OutLine.{OutLine}
 use Rattle.plum_text.specs.declared.lines.OutLine.TheVariants.{Tail}
 use Rattle.plum_text.specs.Lines.{journal_line, out_line}
-use Rattle.plum_text.specs.Texts.{Section, note_of, notes_from, line_of_note, lines_from}
+use Rattle.plum_base.specs.Note.{note_of}
+use Rattle.plum_text.specs.Texts.{Section, notes_from, line_of_note, lines_from}
 use Rattle.plum_text.specs.Texts.{journal_text, answer_line, area_lines, areas_lines}
 use Rattle.plum_text.specs.Texts.{section_lines, sections_lines, totals_of, totals_line, out_text}
 use Rattle.plum_replay.specs.Parts.{notes_text, section_text, sections_text}

@@ -11,7 +11,8 @@ use Rattle.plum_base.specs.declared.wave.Sample.{Sample}
 use Rattle.plum_base.specs.Lane.{lane_of}
 use Rattle.plum_core.specs.History.{packet_of}
 use Rattle.plum_core.specs.Transcript.{HoldsByLane}
-use Rattle.plum_text.specs.Texts.{note_of, notes_from}
+use Rattle.plum_base.specs.Note.{note_of}
+use Rattle.plum_text.specs.Texts.{notes_from}
 use Rattle.plum_text.proofs.OneArea.{cons_same}
 use Rattle.plum_replay.proofs.ByNumber.{SameByNumber, first_same, rest_same}
 

@@ -11,7 +11,7 @@ use Rattle.plum_base.specs.Sites.{SitesView}
 use Rattle.plum_core.specs.declared.network.Network.{Network}
 use Rattle.plum_core.specs.Station.{HasTaken, size_of}
 use Rattle.plum_board.specs.Board.{BoardView, StandsFor}
-use Rattle.plum_text.specs.Texts.{note_of}
+use Rattle.plum_base.specs.Note.{note_of}
 use Rattle.plum_replay.specs.Taking.{TakesPackets}
 
 -- nothing yet

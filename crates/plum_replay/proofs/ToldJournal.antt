@@ -26,7 +26,8 @@ use Rattle.plum_base.specs.Packet.{FitsKey}
 use Rattle.plum_text.specs.Fields.{Fits, FitsValue}
 use Rattle.plum_text.specs.Laws.{CanBeTold}
 use Rattle.plum_text.specs.Lines.{FitsJournal}
-use Rattle.plum_text.specs.Texts.{code_of_station, note_of, notes_from, lines_from}
+use Rattle.plum_base.specs.Note.{note_of}
+use Rattle.plum_text.specs.Texts.{code_of_station, notes_from, lines_from}
 use Rattle.plum_replay.proofs.Lists.{All-both, All-made, All-unmade, All-passing, All-pieces}
 use Rattle.plum_replay.proofs.ByNumber.{each_by_number, no_longer}
 use Rattle.plum_replay.proofs.SameEntries.{IsInItsLane}

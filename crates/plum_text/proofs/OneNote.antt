@@ -11,7 +11,8 @@ use Rattle.plum_base.specs.declared.numbers.Key.{Key}
 use Rattle.plum_base.specs.declared.numbers.Tenths.{Tenths}
 use Rattle.plum_base.specs.declared.sites.StationSite.{StationSite}
 use Rattle.plum_base.specs.Sites.{AreCodesDistinct}
-use Rattle.plum_text.specs.Texts.{code_in, code_of_station, line_of_note, lines_from, note_of}
+use Rattle.plum_base.specs.Note.{note_of}
+use Rattle.plum_text.specs.Texts.{code_in, code_of_station, line_of_note, lines_from}
 use Rattle.plum_text.specs.Texts.{notes_from}
 
 -- the code of a listed station
@@ -20,14 +21,16 @@ code_at : (stations : List StationSite) (n : ℕ) (d : StationSite) → n < leng
 code_at stations n d listed = ap code_in (slice_get-get_or stations n d listed)
 
 -- an earlier station has another code than a later one
-apart : (stations : List StationSite) (a b : ℕ) (d : StationSite) → AreCodesDistinct stations → a < b
+apart : (stations : List StationSite) (a b : ℕ) (d : StationSite)
+    → AreCodesDistinct stations → a < b
     → b < length stations → code_of_station stations a ≢ code_of_station stations b
 apart stations a b d distinct before listed same =
     distinct a b d before listed
     (sym (code_at stations a d (omega arith)) ∙ same ∙ code_at stations b d listed)
 
 -- Listed stations of one code are one.
-one_station : (stations : List StationSite) (a b : ℕ) → AreCodesDistinct stations → a < length stations
+one_station : (stations : List StationSite) (a b : ℕ) → AreCodesDistinct stations
+    → a < length stations
     → b < length stations → code_of_station stations a ≡ code_of_station stations b → a ≡ b
 one_station [] a b distinct la lb same = absurd (omega arith)
 one_station (s ∷ stations) a b distinct la lb same = elim (cases_lt a b) [

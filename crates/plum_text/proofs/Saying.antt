@@ -25,7 +25,8 @@ use Rattle.plum_text.specs.declared.lines.OutLine.TheVariants.{Reading as Readin
 use Rattle.plum_text.specs.declared.lines.OutLine.TheVariants.{Alert as AlertLine}
 use Rattle.plum_text.specs.Texts.{Section, answer_line, answer_lines, alert_lines}
 use Rattle.plum_text.specs.Texts.{area_lines, areas_lines, section_lines, sections_lines, out_lines}
-use Rattle.plum_text.specs.Texts.{totals_of, totals_line, notes_from, note_of, lines_from}
+use Rattle.plum_base.specs.Note.{note_of}
+use Rattle.plum_text.specs.Texts.{totals_of, totals_line, notes_from, lines_from}
 use Rattle.plum_text.specs.Texts.{journal_lines}
 
 -- what holds of both lists holds of the two joined

@@ -10,7 +10,11 @@ field_text (Text text) = text.now
 field_text (Value value) = value_text value
 field_text (Class class) = class_or_none_text class
 
--- No text is longer than the longest number.
+-- the bytes of the longest field, a number of 64 bits
+abbrev pub LONGEST_FIELD : ℕ
+LONGEST_FIELD = 20
+
+-- No text is longer than the longest field.
 abbrev pub IsShort : Field → Type 0
-IsShort (Text text) = length text.now ≤ 20
+IsShort (Text text) = length text.now ≤ LONGEST_FIELD
 IsShort field = ⊤

@@ -12,6 +12,7 @@ use Rattle.plum_base.specs.declared.packet.RefusedBody.{RefusedBody}
 use Rattle.plum_base.specs.declared.rules.Alert.{Alert}
 use Rattle.plum_base.specs.declared.sites.StationSite.{StationSite}
 use Rattle.plum_base.specs.declared.sites.TargetSite.{TargetSite}
+use Rattle.plum_base.specs.Note.{note_of}
 use Rattle.plum_base.specs.Sites.{areas_of, targets_of}
 use Rattle.plum_scale.specs.Classes.{class_of}
 use Rattle.plum_text.specs.declared.lines.JournalLine.{JournalLine}
@@ -20,10 +21,6 @@ use Rattle.plum_text.specs.declared.lines.OutLine.TheVariants.{Mark, Refused, An
 use Rattle.plum_text.specs.declared.lines.OutLine.TheVariants.{Reading as ReadingLine}
 use Rattle.plum_text.specs.declared.lines.OutLine.TheVariants.{Alert as AlertLine}
 use Rattle.plum_text.specs.Lines.{journal_line, out_line}
-
--- an entry without its samples
-abbrev pub note_of : Entry → Note
-note_of e = record { station = e.station; key = e.key; fresh = e.fresh; value = e.value }
 
 -- the notes of these parts of a journal, each with its segment, the first part being of this one
 abbrev pub notes_from : ℕ → List (List Entry) → List (ℕ × Note)

@@ -5,7 +5,7 @@ ghost use Rattle.plum_text.specs.Fields.{line, run_text};
 ghost use Rattle.plum_text.specs.Lines.{journal_line, out_line, plain_line};
 
 use crate::lines::{JournalLine, OutLine, PlainLine};
-use crate::spell::{Field, Spelled, spell};
+use crate::spell::{Field, LONGEST_KIND, Spelled, spell};
 use plum_base::{Alert, Name, PacketFault};
 use plum_scale::class_text;
 
@@ -22,6 +22,7 @@ fn run(fresh: bool) -> &'static [u8]
     if fresh { b"F" } else { b"C" }
 }
 
+/// The bytes of a line of the journal.
 pub fn journal_bytes(line: &JournalLine) -> Spelled
     ensures { result.items ≡ journal_line line.now }
 {
@@ -39,7 +40,7 @@ pub fn journal_bytes(line: &JournalLine) -> Spelled
 
 /// `M m bodies kept repeats refused` and `Z segments bodies kept repeats refused`
 fn counts_bytes(kind: &[u8], counts: [u32; 5]) -> Spelled
-    requires { length kind.now ≤ 5 }
+    requires { length kind.now ≤ LONGEST_KIND }
     ensures { result.items ≡ line kind.now (map decimal counts) }
 {
     spell(kind, &counts.map(number))
@@ -95,6 +96,7 @@ fn alert_bytes(m: u32, area: &Name, alert: Alert) -> Spelled
     }
 }
 
+/// The bytes of a line of the output.
 pub fn out_bytes(line: &OutLine) -> Spelled
     ensures { result.items ≡ out_line line.now }
 {
@@ -141,6 +143,7 @@ pub fn out_bytes(line: &OutLine) -> Spelled
     }
 }
 
+/// The bytes of a plain line.
 pub fn plain_bytes(line: &PlainLine) -> Spelled
     ensures { result.items ≡ plain_line line.now }
 {

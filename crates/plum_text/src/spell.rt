@@ -11,10 +11,10 @@ use plum_base::{Class, Tenths};
 use plum_scale::{class_text, text_of};
 
 /// The bytes of the longest kind, `drill`.
-const LONGEST_KIND: usize = 5;
+pub const LONGEST_KIND: usize = 5;
 
 /// The most fields that a line has.
-const MOST_FIELDS: usize = 7;
+pub const MOST_FIELDS: usize = 7;
 
 /// The bytes of the longest field, a number of 64 bits.
 const LONGEST_FIELD: usize = 20;

@@ -12,24 +12,28 @@ use plum_base::{Class, Tenths};
 use plum_scale::class_read;
 use std::str;
 
+/// A number of 64 bits, where the word is its digits.
 pub fn u64_read(word: &[u8]) -> Option<u64>
     ensures { (n : ℕ) → Fits 64 n → word.now ≡ decimal n → result ≡ Some n }
 {
     str::from_utf8(word).ok()?.parse().ok()
 }
 
+/// A number of 32 bits.
 pub fn u32_read(word: &[u8]) -> Option<u32>
     ensures { (n : ℕ) → Fits 32 n → word.now ≡ decimal n → result ≡ Some n }
 {
     u32::try_from(u64_read(word)?).ok()
 }
 
+/// A number of 16 bits.
 pub fn u16_read(word: &[u8]) -> Option<u16>
     ensures { (n : ℕ) → Fits 16 n → word.now ≡ decimal n → result ≡ Some n }
 {
     u16::try_from(u64_read(word)?).ok()
 }
 
+/// A number of 8 bits.
 pub fn u8_read(word: &[u8]) -> Option<u8>
     ensures { (n : ℕ) → Fits 8 n → word.now ≡ decimal n → result ≡ Some n }
 {

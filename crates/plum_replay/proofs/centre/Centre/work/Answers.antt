@@ -6,7 +6,7 @@ use Rattle.std.specs.List.{flat_map}
 use Rattle.plum_packet.specs.Segments.{packets_in}
 use Rattle.plum_core.specs.Station.{HasTaken}
 use Rattle.plum_core.specs.Transcript.{journal_of}
-use Rattle.plum_text.specs.Texts.{note_of}
+use Rattle.plum_base.specs.Note.{note_of}
 use Rattle.plum_replay.specs.Sections.{of_area}
 use Rattle.plum_replay.specs.Parts.{notes_text, section_text}
 use Rattle.plum_replay.proofs.OneMore.{Laws, replays, counted_in, written}
