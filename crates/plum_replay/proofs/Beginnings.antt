@@ -22,7 +22,8 @@ use Rattle.plum_text.specs.Lines.{out_line}
 use Rattle.plum_text.specs.Texts.{Section, journal_text, out_text, section_lines, sections_lines}
 use Rattle.plum_replay.specs.declared.centre.Centre.{Centre}
 use Rattle.plum_replay.specs.declared.centre.Told.{Told}
-use Rattle.plum_replay.specs.Begun.{AreInOrder, IsBegun, IsFrontOf}
+use mathlib.Core.List.{IsPrefix}
+use Rattle.plum_replay.specs.Begun.{AreInOrder, IsBegun}
 use Rattle.plum_replay.specs.Centre.{HasReplayed, ReplaysOneMore}
 use Rattle.plum_replay.specs.Parts.{sections_text}
 use Rattle.plum_replay.specs.Sections.{AreSections}
@@ -31,12 +32,12 @@ use Rattle.plum_replay.proofs.Marks.{AreSections-length}
 use Rattle.plum_replay.proofs.PartTexts.{out_text-parts}
 
 -- Bytes begin themselves,
-whole_front : (bytes : List ℕ) → IsFrontOf bytes bytes
+whole_front : (bytes : List ℕ) → IsPrefix bytes bytes
 whole_front bytes = ([], append-nil bytes)
 
 -- and what others follow.
-longer_front : (front bytes more whole : List ℕ) → IsFrontOf front bytes → whole ≡ bytes ++ more
-    → IsFrontOf front whole
+longer_front : (front bytes more whole : List ℕ) → IsPrefix front bytes → whole ≡ bytes ++ more
+    → IsPrefix front whole
 longer_front front bytes more whole begins is = (
   begins.0 ++ more,
   sym (append_assoc front begins.0 more) ∙ ap (λ bytes. bytes ++ more) begins.1 ∙ sym is,
@@ -44,7 +45,7 @@ longer_front front bytes more whole begins is = (
 
 -- Some bytes of those that follow are written.
 partly : (n : ℕ) (front more whole : List ℕ) → front ++ more ≡ whole
-    → IsFrontOf (front ++ take n more) whole
+    → IsPrefix (front ++ take n more) whole
 partly n front more whole is = (
   drop n more,
   append_assoc front (take n more) (drop n more)
@@ -66,7 +67,7 @@ sections_lines-append targets m (s ∷ front) others =
 
 -- The text of the first sections begins that of all.
 sections_begin : (targets : List TargetSite) (n : ℕ) (sections : List Section)
-    → IsFrontOf (sections_text targets (take n sections)) (sections_text targets sections)
+    → IsPrefix (sections_text targets (take n sections)) (sections_text targets sections)
 sections_begin targets n sections =
     let front = take n sections in
     let more = sections_lines-append targets 1 front (drop n sections) in (
@@ -81,7 +82,7 @@ module _ (setup : Setup) (sites : SitesView) (capture : List ℕ) (tail : ℕ)
     (front others : List (List Decoded))
     (capture_is : IsCaptureOf sites.stations capture (front ++ others) tail)
     (t : Transcript) (sections : List Section) (journal output : List ℕ)
-    (journal_begun : IsFrontOf journal (journal_text sites.stations t.parts))
+    (journal_begun : IsPrefix journal (journal_text sites.stations t.parts))
     (in_order : AreInOrder sites (length front) t.parts sections journal output) where
   abbrev all : List (List Decoded)
   all = front ++ others
@@ -104,7 +105,7 @@ module _ (setup : Setup) (sites : SitesView) (capture : List ℕ) (tail : ℕ)
       → read ≡ (if last then length front else length front - 1) → read ≤ length front
       → IsLegalOver setup sites (map packets_in front) read t
       → AreSections setup.rules (take read front) t.readings sections
-      → IsFrontOf output (if last
+      → IsPrefix output (if last
       then out_text sites.targets sections tail
       else sections_text sites.targets sections)
       → IsBegun setup sites capture journal output
@@ -130,7 +131,7 @@ module _ (setup : Setup) (sites : SitesView) (capture : List ℕ) (tail : ℕ)
         sections_are = subst (λ ss. AreSections setup.rules ss t.readings sections) first
             sections_are;
         journal_begun = journal_begun;
-        output_begun = subst (λ b. IsFrontOf output (if b
+        output_begun = subst (λ b. IsPrefix output (if b
             then out_text sites.targets sections tail
             else sections_text sites.targets sections)) (sym has_all) output_begun;
         in_order = in_order;
@@ -140,7 +141,7 @@ module _ (setup : Setup) (sites : SitesView) (capture : List ℕ) (tail : ℕ)
   begun_within : 0 < length others
       → IsLegalOver setup sites (map packets_in front) (length front - 1) t
       → AreSections setup.rules (but_last front) t.readings sections
-      → IsFrontOf output (sections_text sites.targets sections)
+      → IsPrefix output (sections_text sites.targets sections)
       → IsBegun setup sites capture journal output
   begun_within more legal sections_are output_begun =
       let n = length front in
@@ -157,7 +158,7 @@ module _ (setup : Setup) (sites : SitesView) (capture : List ℕ) (tail : ℕ)
   -- It ends: that mark has its section, and the tail and the totals follow.
   begun_whole : length others ≡ 0 → IsLegal setup sites (map packets_in front) t
       → AreSections setup.rules front t.readings sections
-      → IsFrontOf output (out_text sites.targets sections tail)
+      → IsPrefix output (out_text sites.targets sections tail)
       → IsBegun setup sites capture journal output
   begun_whole none legal sections_are output_begun =
       let n = length front in
@@ -188,13 +189,13 @@ module _ (fewer : FewerReadings) (setup : Setup) (sites : SitesView) (capture : 
   journal_so_far = journal_text sites.stations t.parts
 
   -- What is written begins the text of all sections,
-  written_begins : IsFrontOf written (sections_text sites.targets sections)
+  written_begins : IsPrefix written (sections_text sites.targets sections)
   written_begins = sections_begin sites.targets (length sections - 1) sections
 
   -- and what begins that text begins the whole output.
   begins_whole : (output : List ℕ) (ss : List Section)
-      → IsFrontOf output (sections_text sites.targets ss)
-      → IsFrontOf output (out_text sites.targets ss tail)
+      → IsPrefix output (sections_text sites.targets ss)
+      → IsPrefix output (out_text sites.targets ss tail)
   begins_whole output ss begins =
       longer_front output (sections_text sites.targets ss) _ (out_text sites.targets ss tail) begins
       (out_text-parts sites.targets ss tail)
@@ -245,9 +246,9 @@ module _ (fewer : FewerReadings) (setup : Setup) (sites : SitesView) (capture : 
 
     -- Where this much of the journal and of the output stands, both begin: the output is within the
     -- section of the mark before, and that is not begun while the journal is not whole.
-    begun_more : (journal output : List ℕ) → IsFrontOf journal journal_more
-        → IsFrontOf output (sections_text sites.targets sections)
-        → (journal ≡ journal_more) ⊎ (IsFrontOf journal_so_far journal × (output ≡ written))
+    begun_more : (journal output : List ℕ) → IsPrefix journal journal_more
+        → IsPrefix output (sections_text sites.targets sections)
+        → (journal ≡ journal_more) ⊎ (IsPrefix journal_so_far journal × (output ≡ written))
         → IsBegun setup sites capture journal output
     begun_more journal output journal_begun output_begun in_order =
         go later (subst (λ ss. IsCaptureOf sites.stations capture ss tail)
@@ -266,7 +267,7 @@ module _ (fewer : FewerReadings) (setup : Setup) (sites : SitesView) (capture : 
             elim in_order [
               | inl whole ↦ inl whole
               | inr exact ↦ inr (
-                subst (λ parts. IsFrontOf (journal_text sites.stations parts) journal)
+                subst (λ parts. IsPrefix (journal_text sites.stations parts) journal)
                     (sym parts_before) exact.0,
                 ([], append-nil output ∙ exact.1 ∙ ap (sections_text sites.targets) (sym same)),
               )

@@ -1,6 +1,6 @@
 -- What stands in the outputs of a replay that stopped.
-use Rattle.std.specs.Prelude.{◌≡◌, ◌==◌, ◌-◌, ◌⊎◌, if◌then◌else◌, ℕ, List, [], ◌++◌, length, map}
-use Rattle.std.specs.Prelude.{take}
+use Rattle.std.specs.Prelude.{◌≡◌, ◌==◌, ◌-◌, ◌⊎◌, if◌then◌else◌, ℕ, List, [], length, map, take}
+use mathlib.Core.List.{IsPrefix}
 use Rattle.plum_base.specs.declared.entry.Entry.{Entry}
 use Rattle.plum_base.specs.declared.setup.Setup.{Setup}
 use Rattle.plum_base.specs.declared.sites.TargetSite.{TargetSite}
@@ -14,10 +14,6 @@ use Rattle.plum_text.specs.Texts.{Section, journal_text, out_text}
 use Rattle.plum_replay.specs.Captured.{IsReadToEnd, HasNoneTooMany}
 use Rattle.plum_replay.specs.Parts.{sections_text}
 use Rattle.plum_replay.specs.Sections.{AreSections}
-
--- The bytes begin these.
-abbrev pub IsFrontOf : List ℕ → List ℕ → Type 0
-IsFrontOf front bytes = (rest : List ℕ) × (front ++ rest ≡ bytes)
 
 -- the output of these sections of some of the marks; behind that of the last mark stand the tail
 -- and the totals
@@ -34,8 +30,8 @@ output_so_far targets sections marks tail =
 abbrev pub AreInOrder : SitesView → ℕ → List (List Entry) → List Section → List ℕ → List ℕ → Type 0
 AreInOrder sites k parts sections journal output =
     (journal ≡ journal_text sites.stations parts)
-    ⊎ (IsFrontOf (journal_text sites.stations (take (k - 1) parts)) journal
-    × IsFrontOf output (sections_text sites.targets (take (k - 2) sections)))
+    ⊎ (IsPrefix (journal_text sites.stations (take (k - 1) parts)) journal
+    × IsPrefix output (sections_text sites.targets (take (k - 2) sections)))
 
 -- The journal and the output begin the two texts of one transcript, which is legal up to the k-th
 -- segment of the capture, and are written in order.
@@ -50,9 +46,9 @@ pub record IsBegun (setup : Setup) (sites : SitesView)
   pub sections : List Section
   pub sections_are : AreSections setup.rules (take (length transcript.readings) segments)
       transcript.readings sections
-  pub journal_begun : IsFrontOf journal (journal_text sites.stations transcript.parts)
+  pub journal_begun : IsPrefix journal (journal_text sites.stations transcript.parts)
   pub output_begun :
-      IsFrontOf output (output_so_far sites.targets sections (length segments) tail)
+      IsPrefix output (output_so_far sites.targets sections (length segments) tail)
   pub in_order : AreInOrder sites k transcript.parts sections journal output
 
 -- The beginnings of two such texts are appended.
