@@ -1,6 +1,6 @@
 -- Predictions fit the field of a value: what a station shows is on the scale, and the factors of
 -- stations and targets are within theirs.
-use Rattle.std.proofs.Common.{◌≡◌, ℕ, Bool, true, List, [], ◌∷◌, ◌==◌, ◌≤ℤ◌, ℤ, pos, neg_ℤ, length}
+use Rattle.std.proofs.Common.{◌≡◌, ℕ, Bool, true, List, [], ◌∷◌, ◌==◌, ◌≤ℤ◌, ℤ, length}
 use Rattle.std.proofs.Common.{int_le, nat_lt, Option, Some, None, IfSome, inl, inr, sym, subst}
 use Rattle.std.proofs.Common.{arith, option_and_then, if◌then◌else◌}
 use Rattle.std.proofs.lemmas.Bool.{cases_Bool, and_parts}
@@ -14,7 +14,7 @@ use Rattle.plum_base.specs.declared.sites.TargetSite.{TargetSite}
 use Rattle.plum_base.specs.Levels.{IsFactor}
 use Rattle.plum_core.specs.Prediction.{FindsNear, IsOnScale, none_or_on_scale, is_shown_by, shown}
 use Rattle.plum_core.specs.Prediction.{shown_entries, last_value, IsBest, plus_factor}
-use Rattle.plum_core.specs.Prediction.{IsPredictionOver}
+use Rattle.plum_core.specs.Prediction.{IsPredictionOver, SCALE_LOW, SCALE_HIGH}
 use Rattle.plum_text.specs.Fields.{FitsValue}
 use Rattle.plum_replay.proofs.Lists.{All-at}
 
@@ -29,7 +29,7 @@ MayBeOnScale value = IfSome value IsOnScale
 on_scale : (value : Option Tenths) → none_or_on_scale value ≡ true → MayBeOnScale value
 on_scale None passed = tt
 on_scale (Some t) passed =
-    let parts = and_parts (int_le (neg_ℤ (pos 100)) t.0) (int_le t.0 (pos 227)) passed in
+    let parts = and_parts (int_le SCALE_LOW t.0) (int_le t.0 SCALE_HIGH) passed in
     (le_from _ _ parts.0, le_from _ _ parts.1)
 
 -- the same of the value of the last of such entries
