@@ -1,26 +1,28 @@
--- Targets by their numbers, and the lists of the areas.
+-- The lists of the areas.
 use Rattle.std.proofs.Common.{◌≡◌, ◌≢◌, ◌<◌, ℕ, zero, suc, Bool, true, false, List, []}
 use Rattle.std.proofs.Common.{◌∷◌, ◌++◌, not, length, map, filter, set, get_or, slice_get, Some}
-use Rattle.std.proofs.Common.{AllPairs, Vec, bytes_eq, nat_eq, refl, sym, ap, ap₂, ◌∙◌, subst, arith}
+use Rattle.std.proofs.Common.{AllPairs, Vec, bytes_eq, nat_eq, refl, sym, ap, ◌∙◌, subst}
+use Rattle.std.proofs.Common.{arith}
 use Rattle.std.proofs.Common.{get_or-set_same, get_or-set_other, length-set, inl, inr, nat_lt}
 use Rattle.std.proofs.Common.{Option, None, IsSomeAnd}
 use Rattle.std.proofs.lemmas.Bool.{cases_eq, cases_Bool, false_from_ne_true}
-use Rattle.std.proofs.lemmas.List.{append-nil, map-append}
-use Rattle.std.proofs.lemmas.List.Elements.{All-from_recursion, All-weaker, filter_passes}
+use Rattle.std.proofs.lemmas.List.{append-nil}
+use Rattle.std.proofs.lemmas.List.Elements.{All-weaker, filter_passes}
 use Rattle.std.proofs.lemmas.List.Kept.{AllPairs-cons, AllPairs-filter}
 use Rattle.std.proofs.lemmas.Option.{slice_get_within, get_or_from_slice_get, slice_get-get_or}
 use Rattle.std.proofs.lemmas.Option.{slice_get_read}
 use Rattle.std.proofs.lemmas.Slice.Zip.{AllZip-long}
 use Rattle.std.specs.Cmp.Lexicographic.{pointwise, bytes_decides}
 use Rattle.std.specs.declared.alloc.Global.{Global}
-use Rattle.std.specs.List.{AllByRecursion, AllZip}
+use Rattle.std.specs.List.{AllZip}
 use Rattle.std.specs.Prelude.{All}
 use Rattle.plum_base.specs.declared.numbers.TargetNo.{TargetNo}
 use Rattle.plum_base.specs.declared.sites.TargetSite.{TargetSite}
-use Rattle.plum_base.specs.Sites.{areas_of, first_appearances, targets_of}
+use Rattle.plum_base.proofs.ByNumber.{numbers_push}
+use Rattle.plum_base.specs.Sites.{AreNumbersOf, areas_of, first_appearances, targets_of}
 use Rattle.plum_core.proofs.Lists.{filter_more, beside}
 use Rattle.plum_replay.proofs.Lists.{AllZip-by_index}
-use Rattle.plum_replay.specs.Areas.{AreNumbersOf, AreByArea}
+use Rattle.plum_replay.specs.Areas.{AreByArea}
 use borrow.Author.Tests.{ltb-true, ltb-false}
 
 -- what there is, and what holds of it
@@ -28,55 +30,6 @@ pub some_with : {X : Type 0} (o : Option X) (P : X → Type 0) → IsSomeAnd o P
     → (x : X) × (o ≡ Some x) × P x
 some_with None P is = absurd is
 some_with (Some x) P is = (x, refl, is)
-
-module _ (targets : List TargetSite) where
-  -- What stands at the n-th number is the n-th of those.
-  pub numbers_at : (numbers : List TargetNo) (those : List TargetSite) (n : ℕ) (t : TargetNo)
-      → AreNumbersOf targets numbers those → slice_get numbers n ≡ Some t
-      → (s : TargetSite) × (slice_get those n ≡ Some s) × (slice_get targets t.0 ≡ Some s)
-  numbers_at [] those n t are is = cc
-  numbers_at (k ∷ ks) [] n t are is = cc
-  numbers_at (k ∷ ks) (s ∷ ss) zero t are is =
-      let same : k ≡ t = cc in
-      let first : slice_get targets k.0 ≡ Some s = cc in
-      (s, refl, subst (λ (t : TargetNo). slice_get targets t.0 ≡ Some s) same first)
-  numbers_at (k ∷ ks) (s ∷ ss) (suc n) t are is =
-      let rest : AreNumbersOf targets ks ss = cc in
-      numbers_at ks ss n t rest is
-
-  exist : (numbers : List TargetNo) (those : List TargetSite) → AreNumbersOf targets numbers those
-      → AllByRecursion (λ t. t.0 < length targets) numbers
-  exist [] those are = tt
-  exist (k ∷ ks) [] are = absurd (cc)
-  exist (k ∷ ks) (s ∷ ss) are =
-      let first : slice_get targets k.0 ≡ Some s = cc in
-      let rest : AreNumbersOf targets ks ss = cc in
-      (slice_get_within targets k.0 s first, exist ks ss rest)
-
-  -- There are targets of these numbers.
-  pub numbers_exist : (numbers : List TargetNo) (those : List TargetSite)
-      → AreNumbersOf targets numbers those → All (λ t. t.0 < length targets) numbers
-  numbers_exist numbers those are =
-      All-from_recursion (λ t. t.0 < length targets) numbers (exist numbers those are)
-
-  -- Those are as many as the numbers.
-  pub as_many : (numbers : List TargetNo) (those : List TargetSite)
-      → AreNumbersOf targets numbers those → length those ≡ length numbers
-  as_many [] [] are = refl
-  as_many [] (s ∷ ss) are = absurd (cc)
-  as_many (k ∷ ks) [] are = absurd (cc)
-  as_many (k ∷ ks) (s ∷ ss) are =
-      let rest : AreNumbersOf targets ks ss = cc in
-      ap suc (as_many ks ss rest)
-
-  -- one number more
-  numbers_push : (numbers : List TargetNo) (those : List TargetSite) (t : TargetNo) (s : TargetSite)
-      → AreNumbersOf targets numbers those → slice_get targets t.0 ≡ Some s
-      → AreNumbersOf targets (numbers ++ t ∷ []) (those ++ s ∷ [])
-  numbers_push numbers those t s are is =
-      map-append (λ (n : TargetNo). slice_get targets n.0) numbers (t ∷ [])
-      ∙ ap₂ (λ xs x. xs ++ x ∷ []) are is
-      ∙ sym (map-append Some those (s ∷ []))
 
 -- what stands at the same place of two lists that are related place by place
 pub AllZip-at : {X Y : Type 0} (R : X → Y → Type 0) (xs : List X) (ys : List Y) (i : ℕ) (x : X)

@@ -1,14 +1,10 @@
 -- The targets of each area, by their numbers.
-use Rattle.std.specs.Prelude.{◌≡◌, List, map, slice_get, Some, Vec}
+use Rattle.std.specs.Prelude.{List, Vec}
 use Rattle.std.specs.declared.alloc.Global.{Global}
 use Rattle.std.specs.List.{AllZip}
 use Rattle.plum_base.specs.declared.numbers.TargetNo.{TargetNo}
 use Rattle.plum_base.specs.declared.sites.TargetSite.{TargetSite}
-use Rattle.plum_base.specs.Sites.{areas_of, targets_of}
-
--- These are the numbers of those targets, one for one.
-abbrev pub AreNumbersOf : List TargetSite → List TargetNo → List TargetSite → Type 0
-AreNumbersOf targets numbers those = map (λ n. slice_get targets n.0) numbers ≡ map Some those
+use Rattle.plum_base.specs.Sites.{AreNumbersOf, areas_of, targets_of}
 
 -- The lists are those of the areas, in order: each has the targets of its area, in file order.
 abbrev pub AreByArea : List TargetSite → List (Vec TargetNo Global) → Type 0

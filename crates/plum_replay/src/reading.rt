@@ -5,7 +5,8 @@ ghost use Rattle.plum_base.specs.declared.entry.Entry.{Entry};
 ghost use Rattle.plum_base.specs.Sites.{SitesView, areas_of, targets_of};
 ghost use Rattle.plum_board.specs.Board.{StandsFor};
 ghost use Rattle.plum_core.specs.Transcript.{IsReadingOver, AreReadingsOver};
-ghost use Rattle.plum_replay.specs.Areas.{AreNumbersOf, AreByArea};
+ghost use Rattle.plum_base.specs.Sites.{AreNumbersOf};
+ghost use Rattle.plum_replay.specs.Areas.{AreByArea};
 
 use plum_base::{Answers, NoMemory, Reading, TargetNo};
 use plum_board::Board;

@@ -8,7 +8,8 @@ ghost use Rattle.plum_text.specs.Lines.{out_line};
 ghost use Rattle.plum_text.specs.declared.lines.OutLine.TheVariants.{Refused, Tail};
 ghost use Rattle.plum_text.specs.Texts.{answer_line, answer_lines, area_lines, areas_lines};
 ghost use Rattle.plum_text.specs.Texts.{alert_lines, totals_line};
-ghost use Rattle.plum_replay.specs.Areas.{AreNumbersOf, AreByArea};
+ghost use Rattle.plum_base.specs.Sites.{AreNumbersOf};
+ghost use Rattle.plum_replay.specs.Areas.{AreByArea};
 ghost use Rattle.plum_replay.specs.Parts.{section_text};
 ghost use Rattle.plum_replay.specs.Replayed.{counts_in_all};
 

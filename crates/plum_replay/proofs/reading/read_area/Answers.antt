@@ -5,7 +5,7 @@ use Rattle.std.proofs.lemmas.Option.{slice_get-get_or, slice_get_within, get_or_
 use Rattle.std.proofs.lemmas.Slice.Zip.{all_zipped_more}
 use Rattle.plum_base.specs.declared.numbers.TargetNo.{TargetNo}
 use Rattle.plum_base.specs.Sites.{targets_of}
-use Rattle.plum_replay.proofs.Numbered.{numbers_at, as_many}
+use Rattle.plum_base.proofs.ByNumber.{numbers_at, as_many}
 use Rattle.plum_replay.proofs.reading.read_area.Goals as goal
 
 -- one target more

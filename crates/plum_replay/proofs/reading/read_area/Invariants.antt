@@ -3,7 +3,7 @@ use Rattle.plum_base.specs.declared.entry.Entry.{Entry}
 use Rattle.plum_base.specs.Sites.{SitesView, targets_of}
 use Rattle.plum_board.specs.Board.{StandsFor}
 use Rattle.plum_core.specs.Transcript.{ArePredictions}
-use Rattle.plum_replay.specs.Areas.{AreNumbersOf}
+use Rattle.plum_base.specs.Sites.{AreNumbersOf}
 use Rattle.plum_replay.proofs.reading.read_area.Given as goal
 
 abbrev pub invariant-loop-target : goal.invariant-loop-target

@@ -3,7 +3,8 @@ use Rattle.std.proofs.lemmas.List.{take_all, take_more, length_push}
 use Rattle.std.proofs.lemmas.Option.{get_or_from_slice_get, slice_get_within}
 use Rattle.std.proofs.lemmas.Slice.Zip.{all_zipped_more, AllZip-long}
 use Rattle.plum_base.specs.Sites.{SitesView, areas_of, targets_of}
-use Rattle.plum_replay.proofs.Numbered.{HoldsIn, AreOfArea, list_at, numbers_exist}
+use Rattle.plum_base.proofs.ByNumber.{numbers_exist}
+use Rattle.plum_replay.proofs.Numbered.{HoldsIn, AreOfArea, list_at}
 use Rattle.plum_replay.proofs.reading.read_areas.Goals as goal
 use Rattle.plum_replay.proofs.reading.read_areas.Goals.{After-as_slice}
 

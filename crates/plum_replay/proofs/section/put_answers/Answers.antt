@@ -2,7 +2,7 @@ use Rattle.std.proofs.Common.{◌≡◌, min, length, slice_get, Some, refl, sym
 use Rattle.std.proofs.lemmas.List.{length_push}
 use Rattle.std.proofs.lemmas.Option.{slice_get_read, get_or_from_slice_get}
 use Rattle.std.proofs.lemmas.Slice.Zip.{zip_turn, zip_end}
-use Rattle.plum_replay.proofs.Numbered.{numbers_at, as_many}
+use Rattle.plum_base.proofs.ByNumber.{numbers_at, as_many}
 use Rattle.plum_replay.proofs.PartTexts.{answer_more, no_answer_more}
 use Rattle.plum_replay.proofs.section.put_answers.Goals as goal
 

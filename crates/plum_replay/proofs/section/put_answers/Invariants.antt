@@ -3,7 +3,7 @@ use Rattle.std.specs.List.{flat_map, zip}
 use Rattle.plum_base.specs.declared.sites.TargetSite.{TargetSite}
 use Rattle.plum_text.specs.Lines.{out_line}
 use Rattle.plum_text.specs.Texts.{answer_lines}
-use Rattle.plum_replay.specs.Areas.{AreNumbersOf}
+use Rattle.plum_base.specs.Sites.{AreNumbersOf}
 use Rattle.plum_replay.proofs.PartTexts.{answers_left}
 use Rattle.plum_replay.proofs.section.put_answers.Given as goal
 

@@ -1,5 +1,5 @@
 use Rattle.plum_base.specs.Sites.{targets_of}
-use Rattle.plum_replay.proofs.Numbered.{numbers_exist}
+use Rattle.plum_base.proofs.ByNumber.{numbers_exist}
 use Rattle.plum_replay.proofs.section.put_area.Goals as goal
 
 pub put_answers-requires : goal.put_answers-requires

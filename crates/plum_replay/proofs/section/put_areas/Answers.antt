@@ -1,7 +1,7 @@
 use Rattle.std.proofs.Common.{◌≡◌, ◌<◌, List, ℕ, length, subst, arith}
 use Rattle.std.proofs.lemmas.Slice.Zip.{AllZip-long}
 use Rattle.plum_base.specs.Sites.{areas_of, targets_of}
-use Rattle.plum_replay.specs.Areas.{AreNumbersOf}
+use Rattle.plum_base.specs.Sites.{AreNumbersOf}
 use Rattle.plum_replay.proofs.Numbered.{HoldsIn, list_at}
 use Rattle.plum_replay.proofs.PartTexts.{area_more}
 use Rattle.plum_replay.proofs.section.put_areas.Goals as goal
@@ -12,7 +12,8 @@ listed : (c : After-area_name-area) → c.loop-a.a < length c.args.by_area.now
 listed c =
     let targets = c.args.sites.now.targets in
     let long =
-    AllZip-long (HoldsIn targets targets) (areas_of targets) c.args.by_area.now c.requires.by_area in
+    AllZip-long (HoldsIn targets targets) (areas_of targets) c.args.by_area.now
+    c.requires.by_area in
     omega (arith, c.areas-a-end.ensures)
 
 pub bounds-by_area-i : goal.bounds-by_area-i
