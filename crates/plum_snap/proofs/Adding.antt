@@ -1,5 +1,6 @@
 -- The exchange that adds an entry keeps the rule of the list.
-use Rattle.std.proofs.Common.{◌≡◌, ℕ, ◌+◌, ◌<◌, ◌==◌, Bool, true, false, List, [], ◌∷◌, ◌++◌, length}
+use Rattle.std.proofs.Common.{◌≡◌, ℕ, ◌+◌, ◌<◌, ◌==◌, Bool, true, false, List, [], ◌∷◌, ◌++◌}
+use Rattle.std.proofs.Common.{length}
 use Rattle.std.proofs.Common.{refl, ap, sym, subst, arith, inl, length-append, None}
 use Rattle.std.proofs.lemmas.List.{append-nil}
 use Rattle.std.proofs.lemmas.Bool.Decides.{nat_tests}
@@ -53,7 +54,8 @@ module _ (v : List Entry) (e : Entry) (old : ℕ) (len : length v ≡ old) where
         λ here. absurd (grind (arith, nat_tests)),
       )
 
-  -- Whatever the book is, the exchange adds the entry to all that was seen, or finds another length.
+  -- Whatever the book is, the exchange adds the entry to all that was seen, or finds another
+  -- length.
   pub adds_moves : Moves IsKept shows moves 0 (v, (no_nib, None)) left
       (Adds (step 0 old (old + 1) e) (v, (no_nib, None)))
   adds_moves cells log kept pre away =

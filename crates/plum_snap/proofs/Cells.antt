@@ -10,7 +10,8 @@ cell_more [] (suc k) = refl
 cell_more (c ∷ cells) zero = refl
 cell_more (c ∷ cells) (suc k) = cell_more cells k
 
-pub cell_set : (cells : List Cell) (k : ℕ) (c : Cell) → k < length cells → cell (set cells k c) k ≡ c
+pub cell_set : (cells : List Cell) (k : ℕ) (c : Cell) → k < length cells
+    → cell (set cells k c) k ≡ c
 cell_set [] k c below = absurd (omega arith)
 cell_set (x ∷ cells) zero c below = refl
 cell_set (x ∷ cells) (suc k) c below = cell_set cells k c (omega arith)

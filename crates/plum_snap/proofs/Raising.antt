@@ -9,7 +9,8 @@ use prog.Atomic.{either}
 use Rattle.logbook.specs.Pages.{Cell, cell, Nib, keeps, gives, adds, may_write, no_nib, step}
 use Rattle.logbook.specs.Pages.{Moves, Goes}
 use Rattle.plum_snap.specs.declared.limit.Mark.{Mark}
-use Rattle.plum_snap.specs.Limits.{limit_of, key_of, mark_of, AreInTurn, IsLimited, MakesPen, Begins}
+use Rattle.plum_snap.specs.Limits.{limit_of, key_of, mark_of, AreInTurn, IsLimited, MakesPen}
+use Rattle.plum_snap.specs.Limits.{Begins}
 use Rattle.plum_snap.specs.Limits.{Raises, Looks}
 use Rattle.plum_snap.proofs.Cells.{cell_more, cell_set, cell_other, home_set}
 use Rattle.plum_snap.proofs.Fronts.{prefix_trans, prefix_whole, prefix_length}

@@ -5,7 +5,6 @@ pub mod Snapshots
 pub mod Rule
 pub mod Doors
 pub mod Publisher
-pub mod Numbers
 pub mod Sessions
 pub mod Lent
 pub mod Refused

@@ -4,10 +4,9 @@ ghost use Rattle.std.specs.Prelude.{◌≡◌, ◌<◌, ◌≤◌, List, length,
 ghost use Rattle.std.specs.Prelude.{None, replicate};
 ghost use Rattle.plum_base.specs.declared.entry.Entry.{Entry};
 ghost use Rattle.plum_base.specs.declared.sites.TargetSite.{TargetSite};
-ghost use Rattle.plum_base.specs.Sites.{SitesView, targets_of, MOST_TARGETS};
+ghost use Rattle.plum_base.specs.Sites.{AreNumbersOf, SitesView, targets_of, MOST_TARGETS};
 ghost use Rattle.plum_board.specs.Board.{StandsFor};
 ghost use Rattle.plum_core.specs.Transcript.{ArePredictions};
-ghost use Rattle.plum_snap.specs.Numbers.{AreAt};
 
 use plum_base::{Answers, Name, NoMemory, Sites, TargetNo};
 use plum_board::Board;
@@ -20,7 +19,7 @@ pub(crate) fn numbers_in(
     area: &Name,
 ) -> Result<Vec<TargetNo>, NoMemory>
     ensures numbers { IfOk result (λ v.
-        AreAt sites.now.targets (targets_of area.now sites.now.targets) v.items) }
+        AreNumbersOf sites.now.targets v.items (targets_of area.now sites.now.targets)) }
     ensures few { IfOk result (λ v. length v.items ≤ MOST_TARGETS) }
 {
     let mut numbers = Vec::new(alloc);
@@ -50,7 +49,7 @@ pub(crate) fn answer(board: &Board, numbers: &[TargetNo], answers: &mut Answers)
     requires room { length answers.old ≡ length numbers.now }
     ensures room { length answers.new ≡ length answers.old }
     ensures predictions { (sites : SitesView) (entries : List Entry) (targets : List TargetSite)
-        → StandsFor board.now sites entries → AreAt sites.targets targets numbers.now
+        → StandsFor board.now sites entries → AreNumbersOf sites.targets numbers.now targets
         → ArePredictions sites.stations entries targets answers.new }
 {
     for (i, number) in numbers.iter().enumerate() {

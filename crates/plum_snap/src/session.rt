@@ -28,8 +28,7 @@ pub struct Session {
 
 impl Model for Session {
     ghost use Rattle.std.specs.Prelude.{◌≡◌, ◌≤◌, length};
-    ghost use Rattle.plum_base.specs.Sites.{targets_of, MOST_TARGETS};
-    ghost use Rattle.plum_snap.specs.Numbers.{AreAt};
+    ghost use Rattle.plum_base.specs.Sites.{AreNumbersOf, targets_of, MOST_TARGETS};
     ghost use Rattle.plum_snap.specs.Sessions.{SessionView};
 
     ghost Value = { SessionView };
@@ -44,7 +43,8 @@ impl Model for Session {
     } };
 
     ghost invariant = { λ s.
-        AreAt s.entrance.sites.targets (targets_of s.area s.entrance.sites.targets) s.targets.items
+        AreNumbersOf s.entrance.sites.targets s.targets.items
+        (targets_of s.area s.entrance.sites.targets)
         × (length s.reading.answers ≡ length s.targets.items)
         × (length s.targets.items ≤ MOST_TARGETS) };
 }
@@ -109,7 +109,8 @@ impl Session {
 
     /// The session, once it has looked, and whether it was let in.
     fn after_looking(self) -> (Session, bool)
-        ensures { MatchBool result.1 (HasRead self result.0 result.0.last) (WasShutOut self result.0) }
+        ensures { MatchBool result.1 (HasRead self result.0 result.0.last)
+            (WasShutOut self result.0) }
     {
         let Session {
             entrance,

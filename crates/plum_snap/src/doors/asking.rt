@@ -30,6 +30,7 @@ impl Model for Doors {
 }
 
 impl Doors {
+    /// Doors at which no place was refused yet.
     pub fn new() -> Doors
         ensures { result ≡ 0 }
     {

@@ -131,8 +131,8 @@ impl Entrance {
 
     /// The board that is published, which goes on from what was seen.
     ///
-    /// A reader that comes back, or finds less than was seen or more than is published, which no run
-    /// does, is counted.
+    /// A reader that comes back, or finds less than was seen or more than is published, which no
+    /// run does, is counted.
     pub(crate) fn enter(self) -> Result<Inside, Entrance>
         ensures { MatchResult result (LetsIn self) (TurnsAway self) }
     {

@@ -1,7 +1,7 @@
-use Rattle.std.proofs.Common.{◌∙◌, ap, sym, length, length-set}
+use Rattle.std.proofs.Common.{◌∙◌, ap, length, length-set}
 use Rattle.std.proofs.lemmas.List.{take_all}
-use Rattle.std.proofs.lemmas.Slice.Zip.{AllZip-long}
-use Rattle.plum_snap.proofs.Filling.{one_more, target_at}
+use Rattle.plum_base.proofs.ByNumber.{as_many}
+use Rattle.plum_snap.proofs.Filling.{one_answer_more, target_at}
 use Rattle.plum_snap.proofs.answering.answer.Goals as goal
 
 -- one answer more
@@ -18,7 +18,7 @@ loop-i-preserved c =
           c.loop-i-test.true in
           let predicted = rw t.2 at (c.predict.ensures sites entries stands) in
           rw c.set.ensures
-          (one_more _ targets answers i t.0 c.predict.result
+          (one_answer_more _ targets answers i t.0 c.predict.result
           (c.loop-i.invariant.so_far sites entries targets stands are) t.1
           (rw c.loop-i.invariant.room c.loop-i-test.true) predicted);
     }
@@ -27,7 +27,7 @@ pub returns-clause-predictions : goal.returns-clause-predictions
 returns-clause-predictions c = λ sites entries targets stands are.
     let i = c.loop-i.i in
     let answers = c.loop-i.answers in
-    let long = sym (AllZip-long _ targets _ are) in
+    let long = as_many sites.targets c.args.numbers.now targets are in
     let all_targets = take_all i targets (rw long c.loop-i-test.false) in
     let all_answers = take_all i answers (rw c.loop-i.invariant.room c.loop-i-test.false) in
     rw (all_targets, all_answers) at (c.loop-i.invariant.so_far sites entries targets stands are)

@@ -2,10 +2,10 @@ use Rattle.std.proofs.Common.{◌≡◌, ◌∙◌, arith, Bool, true, false, le
 use Rattle.std.proofs.Common.{append-nil}
 use Rattle.std.proofs.lemmas.List.{take_all, take_more, length_push}
 use Rattle.std.proofs.lemmas.Option.{slice_get_read}
-use Rattle.std.proofs.lemmas.Slice.Zip.{all_zipped_more}
 use Rattle.std.specs.Prelude.{slice_get, Some}
 use Rattle.std.specs.Str.{bytes_eq}
 use Rattle.plum_base.specs.declared.sites.TargetSite.{TargetSite}
+use Rattle.plum_base.proofs.ByNumber.{numbers_push}
 use Rattle.plum_base.specs.Sites.{targets_of}
 use Rattle.plum_core.proofs.Lists.{filter_more}
 use Rattle.plum_snap.proofs.answering.numbers_in.Goals as goal
@@ -31,7 +31,7 @@ loop-n-preserved c =
           let pushed = ap (λ v. v.items) w.numbers-is ∙ w.in_ok-push.ensures.items in
           rw (one_more, ← c.target-item.is, of_area, pushed) (record {
             numbers =
-                all_zipped_more _ (targets_of area front) c.loop-n.numbers.items target _
+                numbers_push sites.targets c.loop-n.numbers.items (targets_of area front) _ target
                 c.loop-n.invariant.numbers here;
             few =
                 omega (
