@@ -2,7 +2,8 @@
 use Rattle.std.proofs.Common.{[], ◌++◌, map, refl, sym, ap, ◌∙◌, append_assoc, append-nil}
 use Rattle.std.proofs.lemmas.List.{map-append}
 use Rattle.plum_lanes.specs.Gathering.{gathered}
-use Rattle.plum_centre.specs.Feeder.{FeederView, note_of}
+use Rattle.plum_base.specs.Note.{note_of}
+use Rattle.plum_centre.specs.Feeder.{FeederView}
 use Rattle.plum_centre.specs.Turns.{GoesOn}
 use Rattle.plum_centre.proofs.Fronts.{prefix_same, prefix_trans}
 

@@ -11,10 +11,6 @@ use Rattle.plum_snap.specs.Fronts.{PublisherId}
 abbrev pub BATCH : ℕ
 BATCH = 64
 
--- an entry without its samples
-abbrev pub note_of : Entry → Note
-note_of e = record { station = e.station; key = e.key; fresh = e.fresh; value = e.value }
-
 -- its gatherer; which publisher it has; all that was appended, which is what is published and then
 -- what is pending; the front of it that is published; its notes; and whether a turn was refused
 -- memory

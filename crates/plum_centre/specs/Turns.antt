@@ -7,7 +7,8 @@ use Rattle.plum_lanes.specs.Gathering.{gathered, IsGather, AreSettled, HoldsAllS
 use Rattle.plum_lanes.specs.Opening.{Opening}
 use Rattle.plum_centre.specs.declared.fed.Fed.{Fed}
 use Rattle.plum_centre.specs.declared.fed.Fed.TheVariants.{One, Published, Empty}
-use Rattle.plum_centre.specs.Feeder.{FeederView, BATCH, note_of}
+use Rattle.plum_base.specs.Note.{note_of}
+use Rattle.plum_centre.specs.Feeder.{FeederView, BATCH}
 
 -- At least so many entries are pending.
 abbrev pub ArePending : ℕ → FeederView → Type 0

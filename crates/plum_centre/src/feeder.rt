@@ -7,12 +7,13 @@ ghost use Rattle.plum_lanes.specs.Gathering.{gathered, settled_of, IsGather};
 ghost use Rattle.plum_lanes.specs.Gathering.{AreSettled, HoldsAllSent, AreGathered};
 ghost use Rattle.plum_lanes.specs.Opening.{Opening};
 ghost use Rattle.plum_lanes.specs.Rounds.{AreWhole, IsClosed};
-ghost use Rattle.plum_centre.specs.Feeder.{note_of, new_feeder, IsPublishedGathered};
+ghost use Rattle.plum_base.specs.Note.{note_of};
+ghost use Rattle.plum_centre.specs.Feeder.{new_feeder, IsPublishedGathered};
 ghost use Rattle.plum_centre.specs.Turns.{Feeds, IsRefused, GoesOn};
 ghost use Rattle.plum_centre.specs.Rounds.{StayWhole};
 
 use crate::fed::Fed;
-use plum_base::{Entry, NoMemory, Note, Notes};
+use plum_base::{Entry, NoMemory, Notes, note_of};
 use plum_lanes::{Gather, Lane, close_round};
 use plum_snap::{Publisher, Receipt, Session};
 use std::marker::Model;
@@ -51,18 +52,6 @@ impl Model for Feeder {
     } };
 
     ghost invariant = { λ f. IsGatheredFront f.publisher.appended (gathered f.gather) f.refused };
-}
-
-/// An entry without its samples.
-fn note_of(entry: &Entry) -> Note
-    ensures { result ≡ note_of entry.now }
-{
-    Note {
-        station: entry.station,
-        key: entry.key,
-        fresh: entry.fresh,
-        value: entry.value,
-    }
 }
 
 /// An entry becomes pending, and is noted.
