@@ -18,3 +18,4 @@ pub mod Existing
 pub mod MoreEvents
 pub mod Givings
 pub mod Once
+pub mod OneHistory

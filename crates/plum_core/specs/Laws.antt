@@ -53,6 +53,13 @@ PartIsKept = (history part : List Entry) (earlier packets : List Packet)
     → HoldsKept history earlier → HoldsKept (history ++ part) (earlier ++ packets)
     → map packet_of part ≡ kept_after earlier packets
 
+-- A valid history of the kept ones of some packets begins that of those of these and more.
+abbrev pub HistoryBegins : Type 0
+HistoryBegins = (setup : Setup) (stations : ℕ) (front whole : List Entry)
+    (packets more : List Packet) → IsValidHistory setup stations front → HoldsKept front packets
+    → IsValidHistory setup stations whole → HoldsKept whole (packets ++ more)
+    → (rest : List Entry) × (whole ≡ front ++ rest)
+
 -- A transcript that is legal up to the last segment is legal, and the other way round.
 abbrev pub LegalToTheEnd : Type 0
 LegalToTheEnd = (setup : Setup) (sites : SitesView) (segments : List (List Packet)) (t : Transcript)

@@ -3,6 +3,7 @@
 ghost use Rattle.plum_core.specs.Laws.{ShowsItsValue, FrontIsValid, FrontOfLane};
 ghost use Rattle.plum_core.specs.Laws.{LegalToTheEnd, LegalByStation, LegalShows, TakingKeeps};
 ghost use Rattle.plum_core.specs.Laws.{PartIsKept, LegalAtStart, PartOfLanes, PartIsCounted};
+ghost use Rattle.plum_core.specs.Laws.{HistoryBegins};
 ghost use Rattle.plum_core.specs.Laws.{PartJoins, ReadingsJoin, OverIsFrom, PartAdds};
 ghost use Rattle.plum_core.specs.Laws.{OnePartEach, FewerReadings};
 ghost use Rattle.plum_core.specs.Laws.{KeptByLane, PacketsOfLane, KeptIsByLane, LanesCounted};
@@ -26,9 +27,11 @@ pub fn histories()
     ensures valid { FrontIsValid }
     ensures lane { FrontOfLane }
     ensures part { PartIsKept }
+    ensures begins { HistoryBegins }
 {
-    // For the contract: what is known of keys.
+    // For the contract: what is known of keys and of values.
     kept_packets();
+    one_value();
 }
 
 /// What the lanes of a history hold.
