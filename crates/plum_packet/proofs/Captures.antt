@@ -170,13 +170,13 @@ fronts (a ∷ some) (b ∷ others) more rest left right e =
     ]
 
 -- those behind others are bodies too
-lengths-behind : (bodies last : List (List ℕ)) → AllByRecursion IsBody (bodies ++ last)
+pub lengths-behind : (bodies last : List (List ℕ)) → AllByRecursion IsBody (bodies ++ last)
     → AllByRecursion IsBody last
 lengths-behind [] last are = are
 lengths-behind (body ∷ bodies) last are = lengths-behind bodies last are.1
 
 -- where no whole record stands, there is none of these
-none_behind : (last : List (List ℕ)) (rest left : List ℕ) → AllByRecursion IsBody last
+pub none_behind : (last : List (List ℕ)) (rest left : List ℕ) → AllByRecursion IsBody last
     → ¬ HasRecord rest → rest ≡ flat_map record_of last ++ left → length last ≤ 0
 none_behind [] rest left are none is = omega arith
 none_behind (body ∷ last) rest left are none is =

@@ -11,3 +11,4 @@ pub mod Taking
 pub mod Counted
 pub mod OneWay
 pub mod Telling
+pub mod Fronts

@@ -204,7 +204,7 @@ is_only_body stations packet code has body are is =
     ∙ ap (λ (l : List ℕ). header_of code packet.key (length wave) ++ l) samples
 
 -- the n-th station has the code
-code_at : (stations : List StationSite) (n code : ℕ) (d : StationSite) → HasCode stations n code
+pub code_at : (stations : List StationSite) (n code : ℕ) (d : StationSite) → HasCode stations n code
     → (n < length stations) × ((get_or stations n d).code ≡ code)
 code_at [] n code d has = absurd has
 code_at (s ∷ rest) zero code d has = (omega arith, has)
@@ -212,7 +212,7 @@ code_at (s ∷ rest) (suc n) code d has =
     let later = code_at rest n code d has in (omega (arith, later.0), later.1)
 
 -- where codes are distinct, one station has it
-same_station : (stations : List StationSite) (n m code : ℕ)
+pub same_station : (stations : List StationSite) (n m code : ℕ)
     → AreCodesDistinct stations → HasCode stations n code
     → HasCode stations m code → n ≡ m
 same_station stations n m code distinct some other =

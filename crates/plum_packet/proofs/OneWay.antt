@@ -26,7 +26,7 @@ same_zipped R one (x ∷ xs) (y ∷ ys) (z ∷ zs) some other =
 
 module _ (stations : List StationSite) (distinct : AreCodesDistinct stations) where
   -- a body decodes in one way
-  one_body : (body : ℕ × List ℕ) (some other : Decoded)
+  pub one_body : (body : ℕ × List ℕ) (some other : Decoded)
       → (some.0 ≡ body.0) × DecodesAs stations body.1 some.1
       → (other.0 ≡ body.0) × DecodesAs stations body.1 other.1 → some ≡ other
   one_body body (n, Ok p) (m, Ok q) some other =
@@ -37,14 +37,14 @@ module _ (stations : List StationSite) (distinct : AreCodesDistinct stations) wh
       let same = one_first stations body.1 f g some.1 other.1 in cc
 
   -- so do segments
-  one_segment : (segment : List (ℕ × List ℕ)) (some other : List Decoded)
+  pub one_segment : (segment : List (ℕ × List ℕ)) (some other : List Decoded)
       → IsDecodedSegment stations segment some → IsDecodedSegment stations segment other
       → some ≡ other
   one_segment segment some other = same_zipped _ one_body segment some other
 
 -- and a capture
 pub decoded : DecodedInOneWay
-decoded stations capture some others tail other distinct bytes a b =
+decoded stations capture some others tail other distinct a b =
     let same = only capture a.bodies b.bodies a.rest b.rest a.capture_is b.capture_is in
     let again = subst (λ bodies. AllZip (IsDecodedSegment stations) (segments_of bodies) others)
     (sym same.0) b.decoded in (

@@ -1,6 +1,8 @@
 -- What holds of captures and of segments: the statements of their laws.
 use Rattle.std.specs.Prelude.{◌≡◌, ◌≢◌, ◌<◌, ◌≤◌, ◌⊎◌, ℕ, List, [], ◌∷◌, ◌++◌, length, map, All}
+use Rattle.std.specs.Prelude.{Option}
 use Rattle.std.specs.List.{flat_map, enumerate_from, AllByRecursion}
+use mathlib.Core.List.{IsPrefix}
 use Rattle.plum_base.specs.Counts.{AddUp}
 use Rattle.plum_base.specs.declared.sites.StationSite.{StationSite}
 use Rattle.plum_base.specs.Sites.{AreCodesDistinct}
@@ -11,6 +13,7 @@ use Rattle.plum_packet.specs.Capture.{record_of, IsBody, IsCapture, AreBytes}
 use Rattle.plum_packet.specs.Counts.{counts_in, counts_of}
 use Rattle.plum_packet.specs.Segments.{segments_of, unmarked, HasNoMark, CutsSegments}
 use Rattle.plum_packet.specs.Segments.{Decoded, packets_in, IsCaptureOf}
+use Rattle.plum_packet.specs.Bodies.{bodies_of, BodiesView, HasTold}
 
 -- All bytes are a capture: records, and a tail.
 abbrev pub EachIsCapture : Type 0
@@ -58,9 +61,17 @@ OneSegment = (bodies : List (List ℕ)) → HasNoMark bodies → length bodies <
 abbrev pub DecodedInOneWay : Type 0
 DecodedInOneWay = (stations : List StationSite) (capture : List ℕ)
     (some others : List (List Decoded)) (tail other : ℕ)
-    → AreCodesDistinct stations → AreBytes capture
+    → AreCodesDistinct stations
     → IsCaptureOf stations capture some tail → IsCaptureOf stations capture others other
     → (some ≡ others) × (tail ≡ other)
+
+-- What a reader of bodies has given of a capture begins the bodies of its segments, where no two
+-- stations have one code.
+abbrev pub GivenBegins : Type 0
+GivenBegins = (stations : List StationSite) (capture : List ℕ) (given : List Decoded)
+    (reader : BodiesView) (left : Option (List ℕ)) (segments : List (List Decoded)) (tail : ℕ)
+    → AreCodesDistinct stations → HasTold stations capture given reader left
+    → IsCaptureOf stations capture segments tail → IsPrefix given (bodies_of segments)
 
 -- Each body of a segment is kept, a repeat or refused.
 abbrev pub CountsAddUp : Type 0

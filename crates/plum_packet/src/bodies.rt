@@ -9,6 +9,7 @@ ghost use Rattle.plum_host.specs.Frames.{OnlyReads};
 ghost use Rattle.plum_host.specs.declared.host.In.TheVariants.{Capture};
 ghost use Rattle.plum_packet.specs.Bodies.{found_as, IsOfListed};
 ghost use Rattle.plum_packet.specs.Counting.{CountsFault};
+ghost use Rattle.plum_packet.specs.Laws.{GivenBegins};
 ghost use Rattle.plum_packet.specs.Reading.{MOST_RECORDS};
 ghost use Rattle.plum_packet.specs.Segments.{SEGMENT_BODIES, DecodesAs};
 ghost use Rattle.plum_packet.specs.declared.records.Progress.TheVariants.{Open};
@@ -178,3 +179,8 @@ impl Bodies {
         self.records.tail()
     }
 }
+
+/// A law: what a reader has given of a capture begins the bodies of its segments.
+pub fn given_bodies_begin()
+    ensures { GivenBegins }
+{}

@@ -18,7 +18,7 @@ mod records;
 mod segment;
 mod segments;
 
-pub use bodies::{Bodies, Found};
+pub use bodies::{Bodies, Found, given_bodies_begin};
 pub use body::{DecodeFault, Head, MOST_SAMPLES, decode, inspect};
 pub use capture::bytes_are_one_capture;
 pub use counts::bodies_are_counted;

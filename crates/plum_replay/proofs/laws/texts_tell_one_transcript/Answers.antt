@@ -46,7 +46,7 @@ returns c = λ setup sites capture journal output table lawful named bytes few r
     other.tail (shown replay) (shown other) (sym replay.output_is ∙ other.output_is)).0 in
     let segments =
     (c.segments_hold_each_body.ensures.decoded stations capture replay.segments other.segments
-    replay.tail other.tail codes bytes replay.capture_is other.capture_is).0 in
+    replay.tail other.tail codes replay.capture_is other.capture_is).0 in
     let kept = λ (ss : List (List Decoded)). kept_in_segments (map packets_in ss) in
     let held =
     subst (λ ss. AllZip (HoldsByLane setup.lanes) u.parts (kept ss)) (sym segments)
