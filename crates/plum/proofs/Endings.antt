@@ -1,5 +1,5 @@
 -- How the work ends at each input.
-use Rattle.std.proofs.Common.{◌≡◌, ℕ, ◌<◌, ◌⊎◌, List, [], Option, Some, None}
+use Rattle.std.proofs.Common.{◌≡◌, ℕ, ◌<◌, true, List, [], Option, Some, None}
 use Rattle.std.proofs.Common.{inl, inr, refl, sym, ap, subst, ◌∙◌, arith, append-nil}
 use Rattle.plum_base.specs.declared.setup.Setup.{Setup}
 use Rattle.plum_base.specs.Counts.{AddUp}
@@ -22,16 +22,21 @@ use Rattle.plum.specs.declared.status.SitesFile.TheVariants as sites
 use Rattle.plum.specs.declared.status.LimitOf.TheVariants as limits
 use Rattle.plum.specs.declared.status.Status.{Status}
 use Rattle.plum.specs.declared.status.Status.TheVariants as ends
-use Rattle.plum.specs.Files.{turn_of, IsFile, FilesState}
-use Rattle.plum.specs.Causes.{FailsAt, IsCause, ComesTo, LeavesBehind}
-use Rattle.plum.specs.Replayed.{BeginsFiles}
+use Rattle.plum.specs.Files.{turn_of, IsFile, FilesState, uses}
+use Rattle.plum.specs.Causes.{FailsAt, IsCause, ComesTo, LeavesBehind, LeavesUnused}
+use Rattle.plum.specs.Causes.{EndsAtAnInput}
+use Rattle.plum.specs.Job.{Job, replay, station, check, IsReplay}
+use Rattle.plum.specs.Replayed.{StopsInReplay}
 use Rattle.plum.specs.Status.{CountsEnd, status_of}
-use Rattle.plum.specs.Ended.{AppendsEnd, HasEnded, IsAtTurn}
-use Rattle.plum.proofs.Turns.{leaves_behind}
+use Rattle.plum.specs.Ended.{AppendsEnd, HasEnded, IsAtTurn, AreRead, BreaksOff, StopsReading}
+use Rattle.plum.specs.Ended.{WritesAtAnEnd}
+use Rattle.plum.specs.Plain.{LeavesJournal}
+use Rattle.plum.proofs.Turns.{leaves_behind, leaves_unused, leaves_unused_at_capture}
+use Rattle.plum.proofs.Turns.{comes_to_capture}
 
 -- What was said of an input as it was left holds of it as it was at first.
 
-fails_from : (file : In) (before now after : HostView) → now.left file ≡ before.left file
+pub fails_from : (file : In) (before now after : HostView) → now.left file ≡ before.left file
     → FailsAt file now after → FailsAt file before after
 fails_from inputs.Setup before now after same (turn, failed) =
     (turn, λ bytes told. failed bytes (same ∙ told))
@@ -44,7 +49,7 @@ fails_from inputs.Capture before now after same failed =
 fails_from inputs.Journal before now after same (turn, failed) = absurd (omega arith)
 fails_from inputs.Output before now after same (turn, failed) = absurd (omega arith)
 
-cause_from : (status : Status) (file : In) (before now after : HostView)
+pub cause_from : (status : Status) (file : In) (before now after : HostView)
     → now.left file ≡ before.left file → IsCause status file now after
     → IsCause status file before after
 cause_from ends.Done file before now after same cause = cause
@@ -67,7 +72,7 @@ cause_from (ends.Limit limits.Records) file before now after same (at, has) = (
 )
 cause_from ends.NoMemory file before now after same cause = cause
 
-counts_from : (status : Status) (before now after : HostView) → CountsNothing before now
+pub counts_from : (status : Status) (before now after : HostView) → CountsNothing before now
     → CountsEnd status now after → CountsEnd status before after
 counts_from ends.ReadFault before now after none ended =
     record { reads = rw (← none.reads) ended.reads; writes = ended.writes ∙ none.writes }
@@ -98,64 +103,95 @@ nothing_appended before after same = record {
   output = same Out;
 }
 
--- At a file the work ends before anything is appended.
-appends_at_a_file : (status : Status) (file : In) (before after : HostView) → IsFile file
-    → IsCause status file before after → AppendsNothing before after
-    → AppendsEnd status before after
-appends_at_a_file ends.Done file before after turn cause nothing =
-    let e = ap turn_of cause in absurd (omega arith)
-appends_at_a_file ends.Usage file before after turn cause nothing = absurd cause
-appends_at_a_file (ends.Setup fault) file before after turn cause nothing = nothing
-appends_at_a_file (ends.Sites which fault) file before after turn cause nothing = nothing
-appends_at_a_file ends.ReadFault file before after turn cause nothing = nothing
-appends_at_a_file ends.WriteFault file before after turn cause nothing = inl nothing
-appends_at_a_file (ends.Limit of_what) file before after turn cause nothing = nothing
-appends_at_a_file ends.NoMemory file before after turn cause nothing = inl nothing
+-- where nothing is appended, no command has done more than it may
+pub stopped_quietly : (job : Job) (before after : HostView) → AppendsNothing before after
+    → LeavesJournal before after → StopsReading job before after
+stopped_quietly (replay setup stations targets capture journal) before after nothing left = nothing
+stopped_quietly (station setup stations capture code) before after nothing left =
+    record { journal = left; output = inl nothing.output }
+stopped_quietly (check setup stations targets capture) before after nothing left =
+    record { journal = left; output = inl nothing.output }
 
-no_write_at_a_file : (status : Status) (file : In) (before after : HostView) → IsFile file
-    → IsCause status file before after → status ≡ ends.WriteFault → StopsAtAnEnd before after
-no_write_at_a_file status file before after turn cause is =
+pub broke_off_quietly : (job : Job) (before after : HostView) → AppendsNothing before after
+    → LeavesJournal before after → BreaksOff job before after
+broke_off_quietly (replay setup stations targets capture journal) before after nothing left =
+    inl nothing
+broke_off_quietly (station setup stations capture code) before after nothing left =
+    record { journal = left; output = inl nothing.output }
+broke_off_quietly (check setup stations targets capture) before after nothing left =
+    record { journal = left; output = inl nothing.output }
+
+-- At a file the work ends before anything is appended.
+appends_at_a_file : (job : Job) (status : Status) (file : In) (before after : HostView)
+    → IsFile file → IsCause status file before after → AppendsNothing before after
+    → LeavesJournal before after → AppendsEnd job status before after
+appends_at_a_file job ends.Done file before after turn cause nothing left =
+    let e = ap turn_of cause in absurd (omega arith)
+appends_at_a_file job ends.Usage file before after turn cause nothing left = absurd cause
+appends_at_a_file job (ends.Setup fault) file before after turn cause nothing left = nothing
+appends_at_a_file job (ends.Sites which fault) file before after turn cause nothing left = nothing
+appends_at_a_file job ends.ReadFault file before after turn cause nothing left =
+    stopped_quietly job before after nothing left
+appends_at_a_file job ends.WriteFault file before after turn cause nothing left =
+    broke_off_quietly job before after nothing left
+appends_at_a_file job (ends.Limit (limits.File long)) file before after turn cause nothing left =
+    nothing
+appends_at_a_file job (ends.Limit limits.Records) file before after turn cause nothing left =
+    stopped_quietly job before after nothing left
+appends_at_a_file job ends.NoMemory file before after turn cause nothing left =
+    broke_off_quietly job before after nothing left
+
+no_write_at_a_file : (job : Job) (status : Status) (file : In) (before after : HostView)
+    → IsFile file → IsCause status file before after → status ≡ ends.WriteFault
+    → WritesAtAnEnd job before after
+no_write_at_a_file job status file before after turn cause is =
     let at : file ≡ inputs.Capture = subst (λ s. IsCause s file before after) is cause in
     let e = ap turn_of at in absurd (omega arith)
 
 -- the work ends at a file
-pub ends_at_a_file : (status : Status) (file : In) (before now after : HostView) → IsFile file
-    → ComesTo file before → IsAtTurn file before now → OnlyReads file now after
-    → IsCause status file now after → CountsEnd status now after → HasEnded status before after
-ends_at_a_file status file before now after turn comes so_far frame cause counts =
+pub ends_at_a_file : (job : Job) (status : Status) (file : In) (before now after : HostView)
+    → IsFile file → uses job file ≡ true → ComesTo job file before → IsAtTurn file before now
+    → OnlyReads file now after → IsCause status file now after → CountsEnd status now after
+    → HasEnded job status before after
+ends_at_a_file job status file before now after turn used comes so_far frame cause counts =
     let here = cause_from status file before now after (so_far.inputs file (omega arith)) cause in
     let behind = leaves_behind file before now after so_far frame in
-    let nothing = nothing_appended before after (λ to. frame.outputs to ∙ so_far.outputs to) in
+    let outputs : (to : To) → after.held to ≡ before.held to =
+    λ to. frame.outputs to ∙ so_far.outputs to in
+    let nothing = nothing_appended before after outputs in
     record {
       at_an_input = record {
         file = file;
+        used = used;
         before_it = comes;
         behind_it = behind;
         cause = here;
       };
       counts = counts_from status before now after so_far.counts counts;
-      appends = appends_at_a_file status file before after turn here nothing;
-      write_at_an_end = no_write_at_a_file status file before after turn here;
-      other_inputs = λ later turn_of_it. behind later (omega arith);
+      appends = appends_at_a_file job status file before after turn here nothing
+          (outputs Journal);
+      write_at_an_end = no_write_at_a_file job status file before after turn here;
+      unused = leaves_unused job file before after used turn behind;
     }
 
 -- memory is short behind the files
-pub ends_behind_the_files : (before now : HostView) → ComesTo inputs.Capture before
-    → IsAtTurn inputs.Capture before now → HasEnded ends.NoMemory before now
-ends_behind_the_files before now comes so_far =
-    let behind : LeavesBehind inputs.Capture before now =
-    λ later turn. so_far.inputs later (omega arith) in
+pub ends_behind_the_files : (job : Job) (before now : HostView) → ComesTo job inputs.Capture before
+    → IsAtTurn inputs.Capture before now → LeavesUnused job before now
+    → HasEnded job ends.NoMemory before now
+ends_behind_the_files job before now comes so_far unused =
     record {
       at_an_input = record {
         file = inputs.Capture;
+        used = refl;
         before_it = comes;
-        behind_it = behind;
+        behind_it = λ later turn. so_far.inputs later (omega arith);
         cause = tt;
       };
       counts = so_far.counts;
-      appends = inl (nothing_appended before now so_far.outputs);
+      appends = broke_off_quietly job before now (nothing_appended before now so_far.outputs)
+          (so_far.outputs Journal);
       write_at_an_end = λ is. cc;
-      other_inputs = behind;
+      unused = unused;
     }
 
 -- What a replay appended to the outputs as they were left, it appended to those at first.
@@ -186,12 +222,12 @@ begun_from setup sites before now after so_far begun capture told =
       few,
     )
 
-stopped_from : (setup : Setup) (sites : SitesView) (before now after : HostView)
-    → FilesState before setup sites → IsAtTurn inputs.Capture before now
-    → StopsInOrder setup sites now after → AppendsNothing before after ⊎ BeginsFiles before after
-stopped_from setup sites before now after stated so_far (inl nothing) =
+stopped_from : (job : Job) (setup : Setup) (sites : SitesView) (before now after : HostView)
+    → FilesState job before setup sites → IsAtTurn inputs.Capture before now
+    → StopsInOrder setup sites now after → StopsInReplay job before after
+stopped_from job setup sites before now after stated so_far (inl nothing) =
     inl (quietly_from before now after so_far nothing)
-stopped_from setup sites before now after stated so_far (inr begun) =
+stopped_from job setup sites before now after stated so_far (inr begun) =
     inr (setup, sites, stated, begun_from setup sites before now after so_far begun)
 
 an_end_from : (before now after : HostView) → IsAtTurn inputs.Capture before now
@@ -240,96 +276,110 @@ pub record HasStopped (setup : Setup) (sites : SitesView) (fault : ReplayFault)
   pub counts : CountsStop fault before after
   pub other_inputs : LeavesOtherInputs inputs.Capture before after
 
--- the work ends where the replay stops
-pub ends_in_the_replay : (setup : Setup) (sites : SitesView) (fault : ReplayFault)
-    (before now after : HostView) → FilesState before setup sites
-    → ComesTo inputs.Capture before → IsAtTurn inputs.Capture before now
-    → HasStopped setup sites fault now after → HasEnded (status_of fault) before after
-ends_in_the_replay setup sites replays.Read before now after stated comes so_far stopped =
-    let behind = leaves_earlier before now after so_far stopped.other_inputs in
-    record {
-      at_an_input = record {
-        file = inputs.Capture;
-        before_it = comes;
-        behind_it = behind;
-        cause = fails_from inputs.Capture before now after
-            (so_far.inputs inputs.Capture (omega arith)) (stopped.read refl);
-      };
-      counts = counts_from ends.ReadFault before now after so_far.counts stopped.counts;
-      appends = quietly_from before now after so_far (stopped.quiet_read refl);
-      write_at_an_end = λ is. cc;
-      other_inputs = behind;
-    }
-ends_in_the_replay setup sites replays.Write before now after stated comes so_far stopped =
-    let behind = leaves_earlier before now after so_far stopped.other_inputs in
-    record {
-      at_an_input = record {
-        file = inputs.Capture;
-        before_it = comes;
-        behind_it = behind;
-        cause = refl;
-      };
-      counts = counts_from ends.WriteFault before now after so_far.counts stopped.counts;
-      appends = stopped_from setup sites before now after stated so_far stopped.in_order;
-      write_at_an_end = λ is. an_end_from before now after so_far (stopped.write refl);
-      other_inputs = behind;
-    }
-ends_in_the_replay setup sites replays.Limit before now after stated comes so_far stopped =
-    let behind = leaves_earlier before now after so_far stopped.other_inputs in
-    record {
-      at_an_input = record {
-        file = inputs.Capture;
-        before_it = comes;
-        behind_it = behind;
-        cause = cause_from (ends.Limit limits.Records) inputs.Capture before now after
-            (so_far.inputs inputs.Capture (omega arith)) (refl, stopped.limit refl);
-      };
-      counts = counts_from (ends.Limit limits.Records) before now after so_far.counts
-          stopped.counts;
-      appends = quietly_from before now after so_far (stopped.quiet_limit refl);
-      write_at_an_end = λ is. cc;
-      other_inputs = behind;
-    }
-ends_in_the_replay setup sites replays.NoMemory before now after stated comes so_far stopped =
-    let behind = leaves_earlier before now after so_far stopped.other_inputs in
-    record {
-      at_an_input = record {
-        file = inputs.Capture;
-        before_it = comes;
-        behind_it = behind;
-        cause = tt;
-      };
-      counts = counts_from ends.NoMemory before now after so_far.counts stopped.counts;
-      appends = stopped_from setup sites before now after stated so_far stopped.in_order;
-      write_at_an_end = λ is. cc;
-      other_inputs = behind;
-    }
+-- the work ends at the capture
+pub at_the_capture : (job : Job) (setup : Setup) (sites : SitesView) (status : Status)
+    (before now after : HostView) → AreRead job setup sites before now
+    → LeavesOtherInputs inputs.Capture now after → IsCause status inputs.Capture before after
+    → EndsAtAnInput job status before after
+at_the_capture job setup sites status before now after read left cause = record {
+  file = inputs.Capture;
+  used = refl;
+  before_it = comes_to_capture job before setup sites read.stated;
+  behind_it = leaves_earlier before now after read.at_turn left;
+  cause = cause;
+}
 
--- the work is done
-pub ends_done : (setup : Setup) (sites : SitesView) (totals : Totals)
-    (before now after : HostView) → FilesState before setup sites
-    → ComesTo inputs.Capture before → IsAtTurn inputs.Capture before now
+module _ (setup_path stations_path targets_path capture_path journal_path : List ℕ)
+    (setup : Setup) (sites : SitesView) (before now after : HostView) where
+  abbrev it : Job
+  it = replay setup_path stations_path targets_path capture_path journal_path
+
+  -- the work ends where the replay stops
+  ends_in_it : (fault : ReplayFault) → AreRead it setup sites before now
+      → HasStopped setup sites fault now after → HasEnded it (status_of fault) before after
+  ends_in_it replays.Read read stopped =
+      let turn = read.at_turn in
+      record {
+        at_an_input = at_the_capture it setup sites ends.ReadFault before now after read
+            stopped.other_inputs (fails_from inputs.Capture before now after
+            (turn.inputs inputs.Capture (omega arith)) (stopped.read refl));
+        counts = counts_from ends.ReadFault before now after turn.counts stopped.counts;
+        appends = quietly_from before now after turn (stopped.quiet_read refl);
+        write_at_an_end = λ is. cc;
+        unused = leaves_unused_at_capture it before now after read.unused stopped.other_inputs;
+      }
+  ends_in_it replays.Write read stopped =
+      let turn = read.at_turn in
+      record {
+        at_an_input = at_the_capture it setup sites ends.WriteFault before now after read
+            stopped.other_inputs refl;
+        counts = counts_from ends.WriteFault before now after turn.counts stopped.counts;
+        appends = stopped_from it setup sites before now after read.stated turn stopped.in_order;
+        write_at_an_end = λ is. an_end_from before now after turn (stopped.write refl);
+        unused = leaves_unused_at_capture it before now after read.unused stopped.other_inputs;
+      }
+  ends_in_it replays.Limit read stopped =
+      let turn = read.at_turn in
+      record {
+        at_an_input = at_the_capture it setup sites (ends.Limit limits.Records) before now after
+            read stopped.other_inputs (cause_from (ends.Limit limits.Records) inputs.Capture
+            before now after (turn.inputs inputs.Capture (omega arith))
+            (refl, stopped.limit refl));
+        counts = counts_from (ends.Limit limits.Records) before now after turn.counts
+            stopped.counts;
+        appends = quietly_from before now after turn (stopped.quiet_limit refl);
+        write_at_an_end = λ is. cc;
+        unused = leaves_unused_at_capture it before now after read.unused stopped.other_inputs;
+      }
+  ends_in_it replays.NoMemory read stopped =
+      let turn = read.at_turn in
+      record {
+        at_an_input = at_the_capture it setup sites ends.NoMemory before now after read
+            stopped.other_inputs tt;
+        counts = counts_from ends.NoMemory before now after turn.counts stopped.counts;
+        appends = stopped_from it setup sites before now after read.stated turn stopped.in_order;
+        write_at_an_end = λ is. cc;
+        unused = leaves_unused_at_capture it before now after read.unused stopped.other_inputs;
+      }
+
+  -- the work is done
+  ends_it : (totals : Totals) → AreRead it setup sites before now
+      → ReplaysCapture setup sites totals now after → AddUp (counts_in_all totals)
+      → CountsNothing now after → LeavesOtherInputs inputs.Capture now after
+      → HasEnded it ends.Done before after
+  ends_it totals read replays sums counts left =
+      record {
+        at_an_input = at_the_capture it setup sites ends.Done before now after read left refl;
+        counts = counts_from ends.Done before now after read.at_turn.counts counts;
+        appends = record {
+          setup = setup;
+          sites = sites;
+          stated = read.stated;
+          totals = totals;
+          replays = replayed_from setup sites totals before now after read.at_turn replays;
+          sums = sums;
+        };
+        write_at_an_end = λ is. cc;
+        unused = leaves_unused_at_capture it before now after read.unused left;
+      }
+
+pub ends_in_the_replay : (job : Job) → IsReplay job → (setup : Setup) (sites : SitesView)
+    (fault : ReplayFault) (before now after : HostView) → AreRead job setup sites before now
+    → HasStopped setup sites fault now after → HasEnded job (status_of fault) before after
+ends_in_the_replay (replay s st t c j) is setup sites fault before now after read stopped =
+    ends_in_it s st t c j setup sites before now after fault read stopped
+ends_in_the_replay (station s st c n) is setup sites fault before now after read stopped =
+    absurd is
+ends_in_the_replay (check s st t c) is setup sites fault before now after read stopped = absurd is
+
+pub ends_done : (job : Job) → IsReplay job → (setup : Setup) (sites : SitesView)
+    (totals : Totals) (before now after : HostView) → AreRead job setup sites before now
     → ReplaysCapture setup sites totals now after → AddUp (counts_in_all totals)
     → CountsNothing now after → LeavesOtherInputs inputs.Capture now after
-    → HasEnded ends.Done before after
-ends_done setup sites totals before now after stated comes so_far replays sums counts left =
-    let behind = leaves_earlier before now after so_far left in
-    record {
-      at_an_input = record {
-        file = inputs.Capture;
-        before_it = comes;
-        behind_it = behind;
-        cause = refl;
-      };
-      counts = counts_from ends.Done before now after so_far.counts counts;
-      appends = record {
-        setup = setup;
-        sites = sites;
-        stated = stated;
-        totals = totals;
-        replays = replayed_from setup sites totals before now after so_far replays;
-        sums = sums;
-      };
-      write_at_an_end = λ is. cc;
-      other_inputs = behind;
-    }
+    → HasEnded job ends.Done before after
+ends_done (replay s st t c j) is setup sites totals before now after read replays sums counts
+    left = ends_it s st t c j setup sites before now after totals read replays sums counts left
+ends_done (station s st c n) is setup sites totals before now after read replays sums counts
+    left = absurd is
+ends_done (check s st t c) is setup sites totals before now after read replays sums counts left =
+    absurd is

@@ -1,4 +1,10 @@
-pub mod Words
 pub mod Turns
 pub mod Endings
 pub mod Promises
+pub mod Watching
+pub mod Tallying
+pub mod Tellings
+pub mod Written
+pub mod Begun
+pub mod PlainEnds
+pub mod Commands

@@ -1,5 +1,5 @@
 -- Why a call ends, and at which input (the project's own order of refusals).
-use Rattle.std.specs.Prelude.{◌≡◌, ⊤, ℕ, ◌<◌, ◌≤◌, List, length, Err}
+use Rattle.std.specs.Prelude.{◌≡◌, ⊤, ℕ, ◌<◌, ◌≤◌, true, false, List, length, Err}
 use Rattle.plum_host.specs.declared.host.In.{In}
 use Rattle.plum_host.specs.declared.host.In.TheVariants as inputs
 use Rattle.plum_host.specs.Loading.{TakesAtMost}
@@ -15,7 +15,8 @@ use Rattle.plum.specs.declared.status.LimitOf.TheVariants as limits
 use Rattle.plum.specs.declared.status.Status.{Status}
 use Rattle.plum.specs.declared.status.Status.TheVariants.{Done, Usage, Setup, Sites, ReadFault}
 use Rattle.plum.specs.declared.status.Status.TheVariants.{WriteFault, Limit, NoMemory}
-use Rattle.plum.specs.Files.{MOST_BYTES, IsLawful, turn_of, IsFile}
+use Rattle.plum.specs.Files.{MOST_BYTES, IsLawful, turn_of, IsFile, uses}
+use Rattle.plum.specs.Job.{Job}
 
 -- The bytes of a file that is within the limit, and this is what is wrong first with it.
 abbrev pub IsFaultySetupFile : SetupFault → List ℕ → Type 0
@@ -50,20 +51,26 @@ IsCause (Limit (limits.File long)) file before after =
 IsCause (Limit limits.Records) file before after = (file ≡ inputs.Capture) × HasTooMany before
 IsCause NoMemory file before after = ⊤
 
--- Where the host tells the inputs before this one, they are lawful.
-abbrev pub ComesTo : In → HostView → Type 0
-ComesTo file host =
-    (earlier : In) → turn_of earlier < turn_of file → WhereTold host earlier (IsLawful earlier)
+-- Where the host tells the inputs before this one that the command uses, they are lawful.
+abbrev pub ComesTo : Job → In → HostView → Type 0
+ComesTo job file host = (earlier : In) → turn_of earlier < turn_of file → uses job earlier ≡ true
+    → WhereTold host earlier (IsLawful earlier)
 
 -- Nothing of the inputs behind this one is read.
 abbrev pub LeavesBehind : In → HostView → HostView → Type 0
 LeavesBehind file before after =
     (later : In) → turn_of file < turn_of later → after.left later ≡ before.left later
 
--- The work ended so at one of the inputs: those before it are lawful, those behind it are not read,
--- and this is why.
-pub record EndsAtAnInput (status : Status) (before after : HostView) : Type 0 where
+-- Nothing is read of the inputs that the command does not use.
+abbrev pub LeavesUnused : Job → HostView → HostView → Type 0
+LeavesUnused job before after =
+    (input : In) → uses job input ≡ false → after.left input ≡ before.left input
+
+-- The work ended so at one of the inputs that the command uses: those before it are lawful, those
+-- behind it are not read, and this is why.
+pub record EndsAtAnInput (job : Job) (status : Status) (before after : HostView) : Type 0 where
   pub file : In
-  pub before_it : ComesTo file before
+  pub used : uses job file ≡ true
+  pub before_it : ComesTo job file before
   pub behind_it : LeavesBehind file before after
   pub cause : IsCause status file before after

@@ -1,5 +1,5 @@
 -- The files that are read before the capture: the setup, the stations and the targets.
-use Rattle.std.specs.Prelude.{◌≡◌, ⊤, ℕ, ◌<◌, ◌≤◌, List, length, Some, Ok}
+use Rattle.std.specs.Prelude.{◌≡◌, ⊤, ℕ, ◌<◌, ◌≤◌, Bool, true, false, List, length, Some, Ok}
 use Rattle.plum_base.specs.declared.setup.Setup.{Setup}
 use Rattle.plum_base.specs.declared.sites.StationSite.{StationSite}
 use Rattle.plum_base.specs.declared.sites.TargetSite.{TargetSite}
@@ -10,6 +10,7 @@ use Rattle.plum_host.specs.Told.{HostView, WhereTold}
 use Rattle.plum_table.specs.Setup.{fields_of, setup_of}
 use Rattle.plum_sites.specs.Stations.{AreStationsOf}
 use Rattle.plum_sites.specs.Targets.{AreTargetsOf}
+use Rattle.plum.specs.Job.{Job, replay, station, check}
 
 -- the most bytes of such a file (the project's own limit)
 abbrev pub MOST_BYTES : ℕ
@@ -50,12 +51,30 @@ turn_of inputs.Output = 4
 abbrev pub IsFile : In → Type 0
 IsFile file = turn_of file < turn_of inputs.Capture
 
--- The host tells the three files, and they are lawful.
-abbrev pub TellsLawfulFiles : HostView → Type 0
-TellsLawfulFiles host = (file : In) → IsFile file → Tells host file (IsLawful file)
+-- whether a command uses the targets
+abbrev pub uses_targets : Job → Bool
+uses_targets (replay setup stations targets capture journal) = true
+uses_targets (station setup stations capture code) = false
+uses_targets (check setup stations targets capture) = true
 
--- Where the host tells the files, they state this setup and these sites.
-pub record FilesState (host : HostView) (setup : Setup) (sites : SitesView) : Type 0 where
+-- whether a command reads this input
+abbrev pub uses : Job → In → Bool
+uses job inputs.Setup = true
+uses job inputs.Stations = true
+uses job inputs.Targets = uses_targets job
+uses job inputs.Capture = true
+uses job inputs.Journal = false
+uses job inputs.Output = false
+
+-- The host tells the files that the command uses, and they are lawful.
+abbrev pub TellsLawfulFiles : Job → HostView → Type 0
+TellsLawfulFiles job host =
+    (file : In) → IsFile file → uses job file ≡ true → Tells host file (IsLawful file)
+
+-- Where the host tells the files that the command uses, they state this setup and these sites.
+pub record FilesState (job : Job) (host : HostView) (setup : Setup) (sites : SitesView)
+    : Type 0 where
   pub setup_is : WhereTold host inputs.Setup (IsSetupFile setup)
   pub stations_are : WhereTold host inputs.Stations (IsStationFile sites.stations)
-  pub targets_are : WhereTold host inputs.Targets (IsTargetFile sites.targets)
+  pub targets_are : uses_targets job ≡ true
+      → WhereTold host inputs.Targets (IsTargetFile sites.targets)

@@ -1,6 +1,11 @@
 pub mod Job
+pub mod Asked
 pub mod Status
 pub mod Files
 pub mod Causes
 pub mod Replayed
+pub mod Plain
+pub mod Watched
+pub mod Tallied
+pub mod Telling
 pub mod Ended

@@ -1,12 +1,14 @@
--- What a call did for the setup and the sites of its files.
+-- What a replay did for the setup and the sites of its files.
+use Rattle.std.specs.Prelude.{◌⊎◌}
 use Rattle.plum_base.specs.declared.setup.Setup.{Setup}
 use Rattle.plum_base.specs.Counts.{AddUp}
 use Rattle.plum_base.specs.Sites.{SitesView}
 use Rattle.plum_host.specs.Told.{HostView}
 use Rattle.plum_replay.specs.declared.totals.Totals.{Totals}
 use Rattle.plum_replay.specs.Replayed.{ReplaysCapture, counts_in_all}
-use Rattle.plum_replay.specs.Begun.{BeginsReplay}
+use Rattle.plum_replay.specs.Begun.{AppendsNothing, BeginsReplay}
 use Rattle.plum.specs.Files.{FilesState}
+use Rattle.plum.specs.Job.{Job}
 
 -- The capture is replayed over the setup and the sites that the files state, and the totals add up.
 -- Where the host tells the capture, `replays` says:
@@ -22,15 +24,19 @@ use Rattle.plum.specs.Files.{FilesState}
 --   `legal`, by which each kept packet stands in the journal once.
 -- - The capture is read to its end: `read_whole`, and by `few` within the limit of records.
 -- - The alerts are by the rules: `alerts` of `sections_are`.
-pub record ReplaysFiles (before after : HostView) : Type 0 where
+pub record ReplaysFiles (job : Job) (before after : HostView) : Type 0 where
   pub setup : Setup
   pub sites : SitesView
-  pub stated : FilesState before setup sites
+  pub stated : FilesState job before setup sites
   pub totals : Totals
   pub replays : ReplaysCapture setup sites totals before after
   pub sums : AddUp (counts_in_all totals)
 
 -- The beginnings of the two texts of such a replay are appended.
-abbrev pub BeginsFiles : HostView → HostView → Type 0
-BeginsFiles before after = (setup : Setup) × (sites : SitesView) × FilesState before setup sites
-    × BeginsReplay setup sites before after
+abbrev pub BeginsFiles : Job → HostView → HostView → Type 0
+BeginsFiles job before after = (setup : Setup) × (sites : SitesView)
+    × FilesState job before setup sites × BeginsReplay setup sites before after
+
+-- Nothing is appended, or the beginnings of the two texts are.
+abbrev pub StopsInReplay : Job → HostView → HostView → Type 0
+StopsInReplay job before after = AppendsNothing before after ⊎ BeginsFiles job before after

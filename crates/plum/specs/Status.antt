@@ -1,5 +1,5 @@
 -- Statuses: their numbers and texts, and what they count (the project's own).
-use Rattle.std.specs.Prelude.{⊤, ◌≢◌, ℕ, List, [], ◌++◌, codes, decimal, None}
+use Rattle.std.specs.Prelude.{⊤, ℕ, List, [], ◌++◌, codes, decimal}
 use Rattle.plum_host.specs.declared.host.In.{In}
 use Rattle.plum_host.specs.declared.host.In.TheVariants as inputs
 use Rattle.plum_host.specs.Told.{HostView}
@@ -13,7 +13,6 @@ use Rattle.plum_sites.specs.declared.fault.SiteFault.{SiteFault}
 use Rattle.plum_sites.specs.declared.fault.SiteFault.TheVariants as faults
 use Rattle.plum_replay.specs.declared.fault.ReplayFault.{ReplayFault}
 use Rattle.plum_replay.specs.declared.fault.ReplayFault.TheVariants as replays
-use Rattle.plum.specs.Job.{job_of}
 use Rattle.plum.specs.declared.status.SitesFile.{SitesFile}
 use Rattle.plum.specs.declared.status.SitesFile.TheVariants as sites
 use Rattle.plum.specs.declared.status.LimitOf.{LimitOf}
@@ -72,7 +71,9 @@ limit_text Records = codes "records"
 -- a line with its line feed, or nothing
 abbrev pub text_of : Status → List ℕ
 text_of Done = []
-text_of Usage = codes "plum: usage: replay SETUP STATIONS TARGETS CAPTURE JOURNAL\n"
+text_of Usage = codes "plum: usage: replay SETUP STATIONS TARGETS CAPTURE JOURNAL; "
+    ++ codes "station SETUP STATIONS CAPTURE CODE; "
+    ++ codes "check SETUP STATIONS TARGETS CAPTURE\n"
 text_of (Setup fault) = codes "plum: setup " ++ setup_fault_text fault ++ codes "\n"
 text_of (Sites file fault) =
     codes "plum: " ++ sites_file_text file ++ codes " " ++ site_fault_text fault ++ codes "\n"
@@ -94,9 +95,8 @@ CountsEnd ReadFault before after = CountsRead before after
 CountsEnd WriteFault before after = CountsWrite before after
 CountsEnd status before after = CountsNothing before after
 
--- The words ask for work, and no read and no write fails.
-pub record MeetsNoFault (words : List (List ℕ)) (before after : HostView) : Type 0 where
-  pub work : job_of words ≢ None
+-- No read and no write fails.
+pub record MeetsNoFault (before after : HostView) : Type 0 where
   pub reads : ¬ HasRisen before.read_faults after.read_faults
   pub writes : ¬ HasRisen before.write_faults after.write_faults
 

@@ -1,20 +1,25 @@
 //! plum: an earthquake early warning centre that replays captures.
 //!
-//! It owns the words, the statuses, and the order in which the files are read. It promises `run`:
-//! how each call ends, and what stands in the outputs then. It must not know what a file states, or
-//! how a replay is done: how packets are read and judged, or how its two texts are spelled.
+//! It owns the words, the statuses, the order in which the files are read, and the commands that
+//! write no journal. It promises `run` and `run_plain`: how each call ends, and what stands in the
+//! outputs then. It must not know what a file states, how a replay is done, how a body becomes a
+//! packet, which packets are kept, or how a line is spelled.
 #![tactic(auto)]
 
 mod files;
 mod job;
 mod run;
 mod status;
+mod tally;
+mod teller;
+mod telling;
+mod watch;
 mod work;
 
 pub use job::paths_of;
 use plum_base::NoMemory;
 use plum_host::StdHost;
-pub use run::run;
+pub use run::{run, run_plain};
 pub use status::{LimitOf, SitesFile, Status, status_number, status_text};
 use std::env;
 use std::io::{ErrorKind, Write};

@@ -1,24 +1,92 @@
-//! The top call.
+//! The top calls.
 
-ghost use Rattle.std.specs.Prelude.{◌≡◌, ◌≢◌, ◌↔◌, ◌⊎◌, map, string_bytes, None};
-ghost use Rattle.plum_host.specs.declared.host.In.TheVariants.{Capture};
-ghost use Rattle.plum_replay.specs.Begun.{AppendsNothing, StopsAtAnEnd};
+ghost use Rattle.std.specs.Prelude.{◌≡◌, ◌↔◌, ◌⊎◌, map, string_bytes, None, Some, IfSome};
+ghost use Rattle.std.specs.Prelude.{MatchOption, MatchResult};
 ghost use Rattle.plum.specs.declared.status.LimitOf.TheVariants.{Records};
-ghost use Rattle.plum.specs.Causes.{LeavesBehind, EndsAtAnInput};
+ghost use Rattle.plum.specs.Asked.{job_in};
+ghost use Rattle.plum.specs.Causes.{EndsAtAnInput, LeavesUnused};
+ghost use Rattle.plum.specs.Ended.{AppendsEnd, DoesJob, HasEnded, WritesAtAnEnd};
 ghost use Rattle.plum.specs.Files.{TellsLawfulFiles};
-ghost use Rattle.plum.specs.Job.{job_of};
-ghost use Rattle.plum.specs.Replayed.{ReplaysFiles, BeginsFiles};
+ghost use Rattle.plum.specs.Job.{job_of, plain_job_of};
 ghost use Rattle.plum.specs.Status.{CountsEnd, MeetsNoFault, IsAnswerWithoutFault};
 
-use crate::job::read_words;
+use crate::job::{Job, read_words};
 use crate::status::Status;
-use crate::work::work;
+use crate::work::{check_files, replay_files, show_station};
 use plum_host::Host;
 use plum_sites::files_have_one_answer;
 use std::alloc::Global;
 
+/// How the work ended that was done, or was not.
+fn status_of(work: Result<(), Status>) -> Status
+    ensures { MatchResult work (λ _. result ≡ Status.Done) (λ status. result ≡ status) }
+{
+    match work {
+        Ok(()) => Status::Done,
+        Err(status) => status,
+    }
+}
+
+/// Does a job: how it ended.
+fn work<H: Host>(alloc: Global, job: Job<'_>, host: &mut H) -> Status
+    ensures { HasEnded (job_in job.entry) result (H.told host.old) (H.told host.new) }
+{
+    match job {
+        Job::Replay { .. } => status_of(replay_files(alloc, host)),
+        Job::Station { code, .. } => status_of(show_station(alloc, code, host)),
+        Job::Check { .. } => status_of(check_files(alloc, host)),
+    }
+}
+
+/// The plain command that the words ask for, or none where they ask for nothing, or for `replay`.
+fn read_plain(words: &[String]) -> Option<Job<'_>>
+    ensures { MatchOption result (plain_job_of (map string_bytes words.now) ≡ None)
+        (λ job. plain_job_of (map string_bytes words.now) ≡ Some (job_in job)) }
+{
+    match read_words(words)? {
+        Job::Replay { .. } => None,
+        job => Some(job),
+    }
+}
+
+/// Does what the words ask for where that is a plain command: `station` reads the setup and the
+/// stations, and writes the values of one of them over the capture; `check` reads the setup, the
+/// stations and the targets, and writes what is refused of the capture, and its totals.
+///
+/// Its clauses are those of `run`, for these commands alone.
+pub fn run_plain<H: Host>(alloc: Global, words: &[String], host: &mut H) -> Status
+    ensures usage { (result ≡ Status.Usage)
+        ↔ (plain_job_of (map string_bytes words.now) ≡ None) }
+    ensures idle { result ≡ Status.Usage → host.new ≡ host.old }
+
+    ensures headline { IfSome (plain_job_of (map string_bytes words.now)) (λ job.
+        result ≡ Status.Done → DoesJob job (H.told host.old) (H.told host.new)) }
+    ensures cause { IfSome (plain_job_of (map string_bytes words.now)) (λ job.
+        EndsAtAnInput job result (H.told host.old) (H.told host.new)) }
+
+    ensures complete { IfSome (plain_job_of (map string_bytes words.now)) (λ job.
+        MeetsNoFault (H.told host.old) (H.told host.new) → IsAnswerWithoutFault result) }
+    ensures complete_over_lawful_files { IfSome (plain_job_of (map string_bytes words.now)) (λ job.
+        MeetsNoFault (H.told host.old) (H.told host.new) → TellsLawfulFiles job (H.told host.old)
+        → (result ≡ Status.Done) ⊎ ((result ≡ Status.Limit Records)
+        ⊎ (result ≡ Status.NoMemory))) }
+
+    ensures counts { CountsEnd result (H.told host.old) (H.told host.new) }
+    ensures outputs { IfSome (plain_job_of (map string_bytes words.now)) (λ job.
+        AppendsEnd job result (H.told host.old) (H.told host.new)) }
+    ensures unused { IfSome (plain_job_of (map string_bytes words.now)) (λ job.
+        LeavesUnused job (H.told host.old) (H.told host.new)) }
+{
+    // For the contract: a file that states sites has no fault.
+    files_have_one_answer();
+    match read_plain(words) {
+        Some(job) => work(alloc, job, host),
+        None => Status::Usage,
+    }
+}
+
 /// Does what the words ask for: `replay` reads the setup, the stations and the targets, and writes
-/// the journal and the predictions of the capture over them.
+/// the journal and the predictions of the capture over them; the plain commands as `run_plain`.
 ///
 /// What a host does not tell, no clause speaks of.
 pub fn run<H: Host>(alloc: Global, words: &[String], host: &mut H) -> Status
@@ -26,51 +94,50 @@ pub fn run<H: Host>(alloc: Global, words: &[String], host: &mut H) -> Status
     ensures usage { (result ≡ Status.Usage) ↔ (job_of (map string_bytes words.now) ≡ None) }
     ensures idle { result ≡ Status.Usage → host.new ≡ host.old }
 
-    // The work done: over the setup and the sites that the files state, the two texts of one legal
-    // transcript are appended, every body is accounted for, the alerts are by the rules, and the
-    // capture is read to its end, within the limit.
-    ensures headline { result ≡ Status.Done → ReplaysFiles (H.told host.old) (H.told host.new) }
+    // The work done. Of `replay`: over the setup and the sites that the files state, the two texts
+    // of one legal transcript are appended, every body is accounted for, the alerts are by the
+    // rules, and the capture is read to its end, within the limit. Of the plain commands: the text
+    // of the command over the whole capture is appended.
+    ensures headline { IfSome (job_of (map string_bytes words.now)) (λ job.
+        result ≡ Status.Done → DoesJob job (H.told host.old) (H.told host.new)) }
 
     // The work ends at one input, and the status tells why. The inputs before that one are lawful,
     // and those behind it are not read, where memory is short too. So a fault is told exactly where
     // it is the first in the order of the work, unless memory is short or a read fails before it is
     // met.
-    ensures cause { result ≢ Status.Usage
-        → EndsAtAnInput result (H.told host.old) (H.told host.new) }
+    ensures cause { IfSome (job_of (map string_bytes words.now)) (λ job.
+        EndsAtAnInput job result (H.told host.old) (H.told host.new)) }
 
     // With lawful words and no fault the work is done, or a file or the capture is refused, or
     // memory is short. With lawful files no file is refused.
-    ensures complete { MeetsNoFault (map string_bytes words.now)
-        (H.told host.old) (H.told host.new) → IsAnswerWithoutFault result }
-    ensures complete_over_lawful_files { MeetsNoFault (map string_bytes words.now)
-        (H.told host.old) (H.told host.new) → TellsLawfulFiles (H.told host.old)
+    ensures complete { IfSome (job_of (map string_bytes words.now)) (λ job.
+        MeetsNoFault (H.told host.old) (H.told host.new) → IsAnswerWithoutFault result) }
+    ensures complete_over_lawful_files { IfSome (job_of (map string_bytes words.now)) (λ job.
+        MeetsNoFault (H.told host.old) (H.told host.new) → TellsLawfulFiles job (H.told host.old)
         → (result ≡ Status.Done) ⊎ ((result ≡ Status.Limit Records)
-        ⊎ (result ≡ Status.NoMemory)) }
+        ⊎ (result ≡ Status.NoMemory))) }
 
     // The one failed read or write that ended the work is counted, and nothing else.
     ensures counts { CountsEnd result (H.told host.old) (H.told host.new) }
 
-    // A write fails before the capture is read or behind its end.
-    ensures write_at_an_end { result ≡ Status.WriteFault
-        → StopsAtAnEnd (H.told host.old) (H.told host.new) }
+    // Of a replay a write fails before the capture is read or behind its end.
+    ensures write_at_an_end { IfSome (job_of (map string_bytes words.now)) (λ job.
+        result ≡ Status.WriteFault → WritesAtAnEnd job (H.told host.old) (H.told host.new)) }
 
-    // Before the capture is read whole nothing is appended; then the two texts are, in order.
-    ensures quiet { result ≢ Status.Done → result ≢ Status.WriteFault → result ≢ Status.NoMemory
-        → AppendsNothing (H.told host.old) (H.told host.new) }
-    ensures in_order { (result ≡ Status.WriteFault) ⊎ (result ≡ Status.NoMemory)
-        → AppendsNothing (H.told host.old) (H.told host.new)
-        ⊎ BeginsFiles (H.told host.old) (H.told host.new) }
+    // What stands in the outputs. Of a replay, before the capture is read whole nothing is
+    // appended; then the two texts are, in order. A plain command appends nothing to the journal,
+    // and to the output, whatever stops it, a beginning of its text over the capture.
+    ensures outputs { IfSome (job_of (map string_bytes words.now)) (λ job.
+        AppendsEnd job result (H.told host.old) (H.told host.new)) }
 
-    // An earlier journal and an earlier output are not read.
-    ensures other_inputs { LeavesBehind Capture (H.told host.old) (H.told host.new) }
+    // An earlier journal and an earlier output are not read, nor what the command does not use.
+    ensures unused { IfSome (job_of (map string_bytes words.now)) (λ job.
+        LeavesUnused job (H.told host.old) (H.told host.new)) }
 {
     // For the contract: a file that states sites has no fault.
     files_have_one_answer();
-    if read_words(words).is_none() {
-        return Status::Usage;
-    }
-    match work(alloc, host) {
-        Ok(()) => Status::Done,
-        Err(status) => status,
+    match read_words(words) {
+        Some(job) => work(alloc, job, host),
+        None => Status::Usage,
     }
 }

@@ -1,6 +1,6 @@
 //! How a call ended.
 
-ghost use Rattle.std.specs.Prelude.{◌≡◌, IfOk, string_bytes};
+ghost use Rattle.std.specs.Prelude.{◌≡◌, ◌++◌, IfOk, OnOk, string_bytes};
 ghost use Rattle.plum.specs.Status.{number_of, text_of, input_text, sites_file_text};
 
 use plum_base::{Bytes, NoMemory};
@@ -117,6 +117,15 @@ fn limit_line(alloc: Global, of_what: LimitOf) -> Result<String, AllocError>
     format!(in alloc; "plum: limit {what}\n")
 }
 
+/// Appends the grammar of the words.
+fn put_usage(text: &mut Bytes) -> Result<(), NoMemory>
+    ensures { OnOk result (text.new ≡ text.old ++ text_of Status.Usage) }
+{
+    text.extend(b"plum: usage: replay SETUP STATIONS TARGETS CAPTURE JOURNAL; ")?;
+    text.extend(b"station SETUP STATIONS CAPTURE CODE; ")?;
+    text.extend(b"check SETUP STATIONS TARGETS CAPTURE\n")
+}
+
 /// One line with its line feed, or nothing for `Done`.
 pub fn status_text(alloc: Global, status: &Status) -> Result<Bytes, NoMemory>
     ensures { IfOk result (λ text. text ≡ text_of status.now) }
@@ -124,9 +133,7 @@ pub fn status_text(alloc: Global, status: &Status) -> Result<Bytes, NoMemory>
     let mut text = Bytes::new(alloc)?;
     match *status {
         Status::Done => {}
-        Status::Usage => text.extend(
-            b"plum: usage: replay SETUP STATIONS TARGETS CAPTURE JOURNAL\n",
-        )?,
+        Status::Usage => put_usage(&mut text)?,
         Status::Setup(fault) => text.extend(setup_line(alloc, fault)?.as_bytes())?,
         Status::Sites(file, fault) => text.extend(sites_line(alloc, file, fault)?.as_bytes())?,
         Status::ReadFault => text.extend(b"plum: read fault\n")?,

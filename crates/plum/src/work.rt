@@ -1,13 +1,25 @@
 //! The work of a call.
 
-ghost use Rattle.std.specs.Prelude.{◌≡◌, OnOk, IfErr};
+ghost use Rattle.std.specs.Prelude.{◌≡◌, true, false, OnOk, IfOk, IfErr, IsTrue};
+ghost use Rattle.plum_base.specs.Sites.{AreTargets};
+ghost use Rattle.plum_host.specs.Counting.{CountsNothing};
+ghost use Rattle.plum_host.specs.Frames.{OnlyReads};
+ghost use Rattle.plum_host.specs.Told.{WhereTold};
+ghost use Rattle.plum_host.specs.declared.host.In.TheVariants as inputs;
 ghost use Rattle.plum.specs.declared.status.Status.TheVariants as ends;
-ghost use Rattle.plum.specs.Ended.{HasEnded};
-ghost use Rattle.plum.specs.Status.{status_of};
+ghost use Rattle.plum.specs.Causes.{IsCause};
+ghost use Rattle.plum.specs.Ended.{HasEnded, AreRead};
+ghost use Rattle.plum.specs.Files.{uses_targets, IsTargetFile};
+ghost use Rattle.plum.specs.Job.{Job, IsReplay, IsStation, IsCheck};
+ghost use Rattle.plum.specs.Status.{CountsEnd, status_of};
 
 use crate::files::{load_setup, load_stations, load_targets};
 use crate::status::{LimitOf, Status};
-use plum_base::{NoMemory, Sites};
+use crate::tally::Tally;
+use crate::teller::Teller;
+use crate::telling::tell_capture;
+use crate::watch::Watch;
+use plum_base::{NoMemory, Setup, Sites, TargetSite};
 use plum_host::Host;
 use plum_replay::{ReplayFault, replay};
 use std::alloc::Global;
@@ -33,16 +45,86 @@ impl From<ReplayFault> for Status {
     }
 }
 
-/// Reads the files, each where those before it are lawful, and replays the capture over what they
-/// state.
-pub fn work<H: Host>(alloc: Global, host: &mut H) -> Result<(), Status>
-    ensures done { OnOk result (HasEnded Status.Done (H.told host.old) (H.told host.new)) }
-    ensures ended { IfErr result (λ status. HasEnded status (H.told host.old) (H.told host.new)) }
+/// What the files before the capture state.
+#[derive(Drop)]
+pub struct Stated {
+    pub setup: Setup,
+    pub sites: Sites,
+}
+
+/// The targets that their file states where they are wanted, else none.
+fn load_wanted_targets<H: Host>(
+    alloc: Global,
+    wanted: bool,
+    host: &mut H,
+) -> Result<Vec<TargetSite>, Status>
+    ensures stated { IsTrue wanted → IfOk result (λ targets.
+        WhereTold (H.told host.old) inputs.Targets (IsTargetFile targets.items)) }
+    ensures lawful { IfOk result (λ targets. AreTargets targets.items) }
+    ensures untouched { wanted ≡ false → host.new ≡ host.old }
+    ensures err { IfErr result (λ _. wanted ≡ true) }
+    ensures cause { IfErr result (λ status.
+        IsCause status inputs.Targets (H.told host.old) (H.told host.new)) }
+    ensures no_fault { OnOk result (CountsNothing (H.told host.old) (H.told host.new)) }
+    ensures fault { IfErr result (λ status. CountsEnd status (H.told host.old) (H.told host.new)) }
+    ensures frame { OnlyReads inputs.Targets (H.told host.old) (H.told host.new) }
+{
+    if wanted {
+        load_targets(alloc, host)
+    } else {
+        Ok(Vec::new(alloc))
+    }
+}
+
+/// Reads the files before the capture, each where those before it are lawful: the targets where
+/// the command uses them.
+fn load_files<H: Host>(alloc: Global, with_targets: bool, host: &mut H) -> Result<Stated, Status>
+    ensures read { (job : Job) → uses_targets job ≡ with_targets → IfOk result (λ stated.
+        AreRead job stated.setup stated.sites (H.told host.old) (H.told host.new)) }
+    ensures ended { (job : Job) → uses_targets job ≡ with_targets → IfErr result (λ status.
+        HasEnded job status (H.told host.old) (H.told host.new)) }
 {
     let setup = load_setup(alloc, host)?;
     let stations = load_stations(alloc, host)?;
-    let targets = load_targets(alloc, host)?;
+    let targets = load_wanted_targets(alloc, with_targets, host)?;
     let sites = Sites::new(alloc, stations, targets)?;
-    replay(alloc, &sites, &setup, host)?;
+    Ok(Stated { setup, sites })
+}
+
+/// Replays the capture over what the files state.
+pub fn replay_files<H: Host>(alloc: Global, host: &mut H) -> Result<(), Status>
+    ensures done { (job : Job) → IsReplay job → OnOk result
+        (HasEnded job Status.Done (H.told host.old) (H.told host.new)) }
+    ensures ended { (job : Job) → IsReplay job → IfErr result (λ status.
+        HasEnded job status (H.told host.old) (H.told host.new)) }
+{
+    let stated = load_files(alloc, true, host)?;
+    replay(alloc, &stated.sites, &stated.setup, host)?;
+    Ok(())
+}
+
+/// Writes the values of the station of this code.
+pub fn show_station<H: Host>(alloc: Global, code: u16, host: &mut H) -> Result<(), Status>
+    ensures done { (job : Job) → IsStation code job → OnOk result
+        (HasEnded job Status.Done (H.told host.old) (H.told host.new)) }
+    ensures ended { (job : Job) → IsStation code job → IfErr result (λ status.
+        HasEnded job status (H.told host.old) (H.told host.new)) }
+{
+    let stated = load_files(alloc, false, host)?;
+    let watch = Watch::new(alloc, &stated.setup, stated.sites.find(code))?;
+    tell_capture(alloc, &stated.sites, Teller::Watching(watch), host)?;
+    Ok(())
+}
+
+/// Writes what is refused of the capture, and its totals.
+pub fn check_files<H: Host>(alloc: Global, host: &mut H) -> Result<(), Status>
+    ensures done { (job : Job) → IsCheck job → OnOk result
+        (HasEnded job Status.Done (H.told host.old) (H.told host.new)) }
+    ensures ended { (job : Job) → IsCheck job → IfErr result (λ status.
+        HasEnded job status (H.told host.old) (H.told host.new)) }
+{
+    let stated = load_files(alloc, true, host)?;
+    let tally = Tally::new(alloc, stated.sites.stations().len())?;
+    tell_capture(alloc, &stated.sites, Teller::Counting(tally), host)?;
     Ok(())
 }

@@ -1,0 +1,40 @@
+use Rattle.std.proofs.Common.{Err, ap, inl, inr}
+use Rattle.std.proofs.lemmas.Result.{err_from_is_err_and}
+use Rattle.plum.proofs.Commands.{replay_uses_targets}
+use Rattle.plum.proofs.Endings.{ends_done, ends_in_the_replay}
+use Rattle.plum.proofs.work.replay_files.Goals as goal
+
+pub returns-in_err-stated-clause-ended : goal.returns-in_err-stated-clause-ended
+returns-in_err-stated-clause-ended g c =
+    let p = err_from_is_err_and c.from_residual.result c.from_residual.ensures.1 in
+    rw (p.1, p.2) (λ job is. c.in_err-stated.ensures.ended job (replay_uses_targets job is))
+
+pub returns-in_err-replay-clause-ended : goal.returns-in_err-replay-clause-ended
+returns-in_err-replay-clause-ended g c =
+    let p = err_from_is_err_and c.from_residual-in_err-replay.result
+    c.from_residual-in_err-replay.ensures.1 in
+    let at = g.H.Host.told in
+    let stated = c.in_ok-stated.stated in
+    let e = c.in_err-replay.ensures in
+    rw (p.1, p.2) (λ job is. ends_in_the_replay job is stated.setup stated.sites _
+    (at c.args.host.now) (at c.load_files.new.host) (at c.replay.new.host)
+    (c.in_ok-stated.ensures.read job (replay_uses_targets job is)) (record {
+      read = λ same. e.read (ap (λ f. Err f) same);
+      limit = λ same. e.limit (ap (λ f. Err f) same);
+      write = λ same. e.write (ap (λ f. Err f) same);
+      quiet_read = λ same. e.quiet (inl (ap (λ f. Err f) same));
+      quiet_limit = λ same. e.quiet (inr (ap (λ f. Err f) same));
+      in_order = e.in_order;
+      counts = e.fault;
+      other_inputs = e.other_inputs;
+    }))
+
+pub returns-clause-done : goal.returns-clause-done
+returns-clause-done g c = λ job is.
+    let at = g.H.Host.told in
+    let stated = c.in_ok-stated.stated in
+    let e = c.in_ok-replay.ensures in
+    ends_done job is stated.setup stated.sites c.in_ok-replay.field-0 (at c.args.host.now)
+    (at c.load_files.new.host) (at c.replay.new.host)
+    (c.in_ok-stated.ensures.read job (replay_uses_targets job is)) e.texts e.sums e.no_fault
+    e.other_inputs
