@@ -1,6 +1,8 @@
 //! Worked runs of one engine: the greatest amplitude that three components can have, and the two
 //! roundings of a stage.
 
+mod filter;
+
 use crate::setup::{GAIN, PASS_THROUGH, equal_samples, setup_of};
 use plum_base::{Gain, Rounding, Sample, Stage, Tenths};
 use plum_engine::Engine;

@@ -6,10 +6,6 @@
 #![tactic(auto)]
 
 #[cfg(test)]
-mod setup_faults;
-#[cfg(test)]
-mod setup_lines;
-#[cfg(test)]
 mod setups;
 #[cfg(test)]
 mod site_faults;

@@ -1,6 +1,9 @@
 //! The numbers of a setup file, and its faults.
 
-use crate::setup_lines::{At, Change, Line, STAGES, THRESHOLDS, lines_of, text_of, threshold};
+mod faults;
+mod lines;
+
+use lines::{At, Change, Line, STAGES, THRESHOLDS, lines_of, text_of, threshold};
 use plum_base::{Class, Gain, Levels, Rounding, Rules, Stage, Tenths};
 use plum_table::{Field, SetupFault, SetupKey, TableFault, read_setup};
 use std::alloc::{AllocError, Global};

@@ -12,6 +12,13 @@ use std::alloc::Global;
 use std::process::Abort;
 use std::test::Fail;
 
+/// The rules of the worked rows.
+const RULES: Rules = Rules {
+    raise: Class::C4,
+    cancel: Class::C3,
+    calm: 2,
+};
+
 /// The setup of the worked rows, with so many lanes and a queue of so many entries.
 pub fn setup_of(lanes: u16, queue: u32) -> Result<Setup, Fail>
     requires lanes { IsLaneCount lanes }
@@ -30,11 +37,7 @@ pub fn setup_of(lanes: u16, queue: u32) -> Result<Setup, Fail>
         cascade: Cascade::new(stages).ok().ok_or("a stage in range")?,
         gain: Gain { g: 1, h: 0 },
         levels: Levels::new(table, Tenths(20)).ok().ok_or("a lawful table")?,
-        rules: Rules {
-            raise: Class::C4,
-            cancel: Class::C3,
-            calm: 2,
-        },
+        rules: RULES,
         lanes,
         queue,
     })

@@ -11,7 +11,8 @@ side_by_side-requires-clause-lanes g c κs within =
     c.as_mut_slice-lanes.ensures.value in
     let shape : IsOf c.args.self.now.stations (length c.as_slice-count.result.now) is.opening =
     (is.shape.0, is.shape.1 ∙ sym (ap length c.as_slice-count.ensures.value)) in
-    AreSomeLanes-at_work is.opening _ _ _ shape (subst (AreAtWork is.opening) (sym slice) is.at_work)
+    AreSomeLanes-at_work is.opening _ _ _ shape
+    (subst (AreAtWork is.opening) (sym slice) is.at_work)
 
 pub close-requires : goal.close-requires
 close-requires g c =

@@ -1,7 +1,7 @@
 //! Setup files in which a line or two are others.
 
-use crate::setup_lines::{Change, Line, lines_of};
 use crate::setups::expect;
+use crate::setups::lines::{Change, Line, lines_of};
 use plum_table::{Field, SetupFault, SetupKey};
 use std::alloc::{AllocError, Global};
 use std::process::Abort;
