@@ -1,6 +1,7 @@
 pub mod Pieces
 pub mod Captures
 pub mod Spelling
+mod Stopping
 pub mod Fields
 pub mod FirstFault
 pub mod Samples

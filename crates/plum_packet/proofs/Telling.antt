@@ -1,12 +1,12 @@
 -- The bodies of a capture, one after another.
-use Rattle.std.proofs.Common.{◌≡◌, ◌≢◌, ℕ, ◌+◌, ◌<◌, ◌≤◌, List, [], ◌∷◌, ◌++◌, length, Option, Some}
-use Rattle.std.proofs.Common.{Result, Ok, Err, refl, sym, ap, subst, ◌∙◌, arith, append-nil}
+use Rattle.std.proofs.Common.{◌≡◌, ◌≢◌, ℕ, ◌+◌, ◌≤◌, List, [], ◌∷◌, ◌++◌, length, Option}
+use Rattle.std.proofs.Common.{Result, refl, sym, ap, subst, ◌∙◌, arith, append-nil}
 use Rattle.std.proofs.Common.{append_assoc, inl, inr, eqb}
 use Rattle.std.proofs.lemmas.Bool.{cases_Bool, eqb-true, eqb-false}
 use Rattle.std.proofs.lemmas.List.{length_push}
 use Rattle.std.proofs.lemmas.List.Concat.{flat_map-append}
 use Rattle.std.proofs.lemmas.Slice.Zip.{all_zipped_more, AllZip-long}
-use Rattle.std.specs.List.{AllZip, flat_map, AllByRecursion}
+use Rattle.std.specs.List.{AllZip}
 use Rattle.plum_base.specs.declared.packet.Packet.{Packet}
 use Rattle.plum_base.specs.declared.packet.PacketFault.{PacketFault}
 use Rattle.plum_base.specs.declared.sites.StationSite.{StationSite}
@@ -17,12 +17,13 @@ use Rattle.plum_packet.specs.declared.records.RecordsFault.{RecordsFault}
 use Rattle.plum_packet.specs.declared.records.RecordsFault.TheVariants as records
 use Rattle.plum_packet.specs.declared.segments.SegmentFault.TheVariants as segments
 use Rattle.plum_packet.specs.Counting.{fault_of_records}
-use Rattle.plum_packet.specs.Capture.{mark_body, record_of, IsBody, AreRecords, HasRecord}
-use Rattle.plum_packet.specs.Reading.{MOST_RECORDS, HasBegun, HasMoreRecords, IsWithinLimit}
-use Rattle.plum_packet.specs.Records.{RecordsView, StandsAt, GivesRecord, GoesOn, Ends, tail_in}
+use Rattle.plum_packet.specs.Capture.{mark_body, HasRecord}
+use Rattle.plum_packet.specs.Reading.{MOST_RECORDS, HasMoreRecords, IsWithinLimit}
+use Rattle.plum_packet.specs.Records.{RecordsView, GivesRecord, GoesOn, Ends, tail_in}
 use Rattle.plum_packet.specs.Segments.{SEGMENT_BODIES, Decoded, DecodesAs, IsDecodedSegment}
 use Rattle.plum_packet.proofs.Captures.{no_more_records}
 use Rattle.plum_packet.proofs.Cuts.{cut_at_mark, cut_where_full, cut_within, cut_at_end}
+use Rattle.plum_packet.proofs.Stopping.{takes_none, within, exceeds}
 
 -- the fault of the reader of records behind that of the reader of bodies
 pub from_read : (fault : RecordsFault) → fault_of_records fault ≡ segments.Read
@@ -217,30 +218,6 @@ module _ (stations : List StationSite) where
             (omega (arith, has.stands.count, few));
       }
 
-  -- one body more
-  lengths-push : (bodies : List (List ℕ)) (body : List ℕ) → AllByRecursion IsBody bodies
-      → IsBody body → AllByRecursion IsBody (bodies ++ body ∷ [])
-  lengths-push [] body are is = (is, tt)
-  lengths-push (first ∷ bodies) body are is = (are.0, lengths-push bodies body are.1 is)
-
-  -- A whole record behind others is one more.
-  records-push : (capture : List ℕ) (bodies : List (List ℕ)) (ahead rest : List ℕ)
-      → AreRecords capture bodies (ahead ++ rest) → (found : HasRecord ahead)
-      → AreRecords capture (bodies ++ found.0 ∷ []) (found.1 ++ rest)
-  records-push capture bodies ahead rest are found =
-      let (body, more, fits, is) = found in
-      record {
-        spelled = are.spelled
-            ∙ ap (λ bytes. flat_map record_of bodies ++ (bytes ++ rest)) is
-            ∙ ap (λ bytes. flat_map record_of bodies ++ bytes)
-            (append_assoc (record_of body) more rest)
-            ∙ sym (append_assoc (flat_map record_of bodies) (record_of body) (more ++ rest))
-            ∙ ap (λ bytes. bytes ++ (more ++ rest))
-            (ap (λ bytes. flat_map record_of bodies ++ bytes) (sym (append-nil (record_of body)))
-            ∙ sym (flat_map-append record_of bodies (body ∷ [])));
-        lengths = lengths-push bodies body are.lengths fits;
-      }
-
   module _ (capture : List ℕ) (given : List Decoded) (old : BodiesView) (new : RecordsView)
       (left after : Option (List ℕ)) (on : GoesOn old.records left new after)
       (same : new.given ≡ old.records.given) (told : HasTold stations capture given old left) where
@@ -248,25 +225,12 @@ module _ (stations : List StationSite) where
     pub fails_within : old.records.given ≤ MOST_RECORDS → ¬ HasRecord new.ahead
         → IsWithinLimit capture after
     fails_within few none =
-        let now = on capture told.has.bodies told.has.stands in
-        record {
-          bodies = told.has.bodies;
-          ahead = new.ahead;
-          rest = now.rest;
-          told = now.told;
-          records = now.records;
-          few = omega (arith, told.has.stands.count, few);
-          no_more = none;
-        }
+        within capture told.has.bodies old.records new left after MOST_RECORDS told.has.stands
+        (takes_none old.records new left after on) (omega (arith, same, few)) none
 
     -- a record too many
     pub too_many : old.records.given ≡ MOST_RECORDS → HasRecord new.ahead
         → HasMoreRecords capture MOST_RECORDS
     too_many full found =
-        let now = on capture told.has.bodies told.has.stands in
-        let bodies = told.has.bodies in (
-          bodies ++ found.0 ∷ [],
-          found.1 ++ now.rest,
-          records-push capture bodies new.ahead now.rest now.records found,
-          omega (arith, told.has.stands.count, full, length_push bodies found.0),
-        )
+        exceeds capture told.has.bodies old.records new left after MOST_RECORDS told.has.stands
+        (takes_none old.records new left after on) (same ∙ full) found

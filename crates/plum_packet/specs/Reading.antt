@@ -65,16 +65,20 @@ abbrev pub HasMoreRecords : List ℕ → ℕ → Type 0
 HasMoreRecords capture limit = (bodies : List (List ℕ)) × (rest : List ℕ)
     × AreRecords capture bodies rest × (limit < length bodies)
 
--- Where this is left of the capture, no more records were taken than are read, and another is not
+-- Where this is left of the capture, no more records than this were taken, and another is not
 -- whole.
-pub record IsWithinLimit (capture : List ℕ) (left : Option (List ℕ)) : Type 0 where
+pub record IsWithin (limit : ℕ) (capture : List ℕ) (left : Option (List ℕ)) : Type 0 where
   pub bodies : List (List ℕ)
   pub ahead : List ℕ
   pub rest : List ℕ
   pub told : left ≡ Some rest
   pub records : AreRecords capture bodies (ahead ++ rest)
-  pub few : length bodies ≤ MOST_RECORDS
+  pub few : length bodies ≤ limit
   pub no_more : ¬ HasRecord ahead
+
+-- no more than those of the longest capture
+abbrev pub IsWithinLimit : List ℕ → Option (List ℕ) → Type 0
+IsWithinLimit capture left = IsWithin MOST_RECORDS capture left
 
 -- Where a segment was given: another may come, or it was the last, nothing is left, and the capture
 -- has no more records than the reader takes.
@@ -119,3 +123,14 @@ abbrev pub TakesRecords : RecordsView → Option (List ℕ) → RecordsView → 
 TakesRecords old left new after = (capture : List ℕ) (bodies : List (List ℕ))
     → StandsAt capture bodies old left
     → (more : List (List ℕ)) × StandsAt capture (bodies ++ more) new after
+
+-- In this step a read failed, within the limit of records.
+abbrev pub FailsInSegments : List StationSite → RecordsView → Option (List ℕ) → Option (List ℕ)
+    → Type 0
+FailsInSegments stations old left after = (capture : List ℕ) (segments : List (List Decoded))
+    → HasGiven stations capture segments old left → IsWithin old.limit capture after
+
+-- In this step a record too many was met.
+abbrev pub ExceedsInSegments : List StationSite → RecordsView → Option (List ℕ) → Type 0
+ExceedsInSegments stations old left = (capture : List ℕ) (segments : List (List Decoded))
+    → HasGiven stations capture segments old left → HasMoreRecords capture old.limit

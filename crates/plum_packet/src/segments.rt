@@ -76,6 +76,7 @@ impl Segments {
     ghost use Rattle.plum_base.specs.Packet.{AreListed};
     ghost use Rattle.plum_packet.specs.Reading.{bodies_in, HasGiven, GivesSegment};
     ghost use Rattle.plum_packet.specs.Reading.{GoesOnWithin, EndsSegment, TakesRecords};
+    ghost use Rattle.plum_packet.specs.Reading.{FailsInSegments, ExceedsInSegments};
     ghost use Rattle.plum_packet.specs.Records.{segments_left, tail_of};
 
     /// A reader of a capture of at most `limit` records.
@@ -130,9 +131,11 @@ impl Segments {
         // A fault comes before another record is whole, or at a record too many.
         ensures taken { OnErr result (TakesRecords self.old ((H.told host.old).left Capture)
             self.new ((H.told host.new).left Capture)) }
-        ensures read { IsErrOf result SegmentFault.Read → ¬ HasRecord self.new.ahead }
+        ensures read { IsErrOf result SegmentFault.Read
+            → FailsInSegments sites.now.stations self.old ((H.told host.old).left Capture)
+            ((H.told host.new).left Capture) }
         ensures over { IsErrOf result SegmentFault.Limit
-            → (self.new.given ≡ self.new.limit) × HasRecord self.new.ahead }
+            → ExceedsInSegments sites.now.stations self.old ((H.told host.old).left Capture) }
 
         // The one fault that stopped it is counted, and nothing else.
         ensures no_fault { OnOk result

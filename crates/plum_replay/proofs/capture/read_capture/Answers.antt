@@ -7,10 +7,11 @@ use Rattle.std.proofs.lemmas.List.Elements.{All-push, All-nil}
 use Rattle.plum_host.specs.declared.host.In.TheVariants.{Capture}
 use Rattle.plum_host.proofs.Frames.{OnlyReads-join, CountsNothing-join}
 use Rattle.plum_packet.specs.declared.records.Progress.TheVariants.{Open}
-use Rattle.plum_packet.specs.Reading.{MOST_RECORDS, HasGiven, HoldsBodies}
+use Rattle.plum_packet.specs.Reading.{HasGiven, HoldsBodies, IsWithin}
+use Rattle.plum_packet.specs.Reading.{HasMoreRecords}
 use Rattle.plum_base.specs.Packet.{AreListed}
 use Rattle.plum_replay.proofs.Capturing.{is_open, from_read, from_limit, bodies-push, count_more}
-use Rattle.plum_replay.proofs.Capturing.{within, too_many, ok_differs, some_differs}
+use Rattle.plum_replay.proofs.Capturing.{ok_differs, some_differs}
 use Rattle.plum_replay.proofs.capture.read_capture.Given as given
 use Rattle.plum_replay.proofs.capture.read_capture.Goals as goal
 use Rattle.plum_replay.proofs.capture.read_capture.Goals.{In_err-segment}
@@ -57,13 +58,9 @@ returns-in_err-segment-clause-read g c =
     let before = c.segments.invariant in
     let fault = from_read c.in_err-segment.field-0.0 cc in
     let reading = was_open g (goal.at.returns-in_err-segment-clause-read g c).In_err-segment in
-    let given = (before.front capture told).2.more reading in
-    let at = g.H.Host.told in
-    within c.args.sites.now.stations capture (before.front capture told).0 c.segments.reader
-    c.next.new.self ((at c.segments.host).left Capture) ((at c.next.new.host).left Capture)
-    c.next.new.self.limit given c.in_err-segment.ensures.taken
-    c.in_err-segment.ensures.limit (c.in_err-segment.ensures.read (ap Err fault))
-    (c.in_err-segment.ensures.same_limit ∙ before.limit))
+    let front = before.front capture told in
+    subst (λ n. IsWithin n capture ((g.H.Host.told c.next.new.host).left Capture)) before.limit
+    (c.in_err-segment.ensures.read (ap Err fault) capture front.0 (front.2.more reading)))
 
 pub returns-in_err-segment-clause-limit : goal.returns-in_err-segment-clause-limit
 returns-in_err-segment-clause-limit g c =
@@ -73,13 +70,9 @@ returns-in_err-segment-clause-limit g c =
     let before = c.segments.invariant in
     let fault = from_limit c.in_err-segment.field-0.0 cc in
     let reading = was_open g (goal.at.returns-in_err-segment-clause-limit g c).In_err-segment in
-    let given = (before.front capture told).2.more reading in
-    let at = g.H.Host.told in
-    let over = c.in_err-segment.ensures.over (ap Err fault) in
-    let limit = c.in_err-segment.ensures.same_limit ∙ before.limit in
-    too_many c.args.sites.now.stations capture (before.front capture told).0 c.segments.reader
-    c.next.new.self ((at c.segments.host).left Capture) ((at c.next.new.host).left Capture)
-    MOST_RECORDS given c.in_err-segment.ensures.taken (over.0 ∙ limit) over.1)
+    let front = before.front capture told in
+    subst (HasMoreRecords capture) before.limit
+    (c.in_err-segment.ensures.over (ap Err fault) capture front.0 (front.2.more reading)))
 
 pub segments-preserved : goal.segments-preserved
 segments-preserved g c =
