@@ -1,5 +1,5 @@
 -- What a history and its packets have of each lane.
-use Rattle.std.proofs.Common.{◌≡◌, ◌≢◌, ℕ, ◌+◌, ◌%◌, ◌<◌, ◌≤◌, Bool, true, false, cond, List, []}
+use Rattle.std.proofs.Common.{◌≡◌, ◌≢◌, ℕ, ◌%◌, ◌<◌, ◌≤◌, Bool, true, false, cond, List, []}
 use Rattle.std.proofs.Common.{◌∷◌, ◌++◌, map, inl, inr, refl, sym, ◌∙◌, ap, append-nil}
 use Rattle.std.proofs.Common.{eqb-true, ne_eqb, mod-lt, arith}
 use Rattle.std.proofs.lemmas.Bool.{cases_Bool, cases_lt}

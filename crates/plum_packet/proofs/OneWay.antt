@@ -1,5 +1,5 @@
 -- A capture decodes in one way.
-use Rattle.std.proofs.Common.{◌≡◌, ◌≢◌, ℕ, List, [], ◌∷◌, Ok, Err, refl, sym, ap, subst, ◌∙◌}
+use Rattle.std.proofs.Common.{◌≡◌, ℕ, List, [], ◌∷◌, Ok, Err, refl, sym, ap, subst, ◌∙◌}
 use Rattle.std.proofs.Common.{length}
 use Rattle.std.specs.List.{AllZip}
 use Rattle.plum_base.specs.declared.sites.StationSite.{StationSite}

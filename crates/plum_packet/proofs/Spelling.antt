@@ -3,7 +3,7 @@ use Rattle.std.proofs.Common.{◌≡◌, ℕ, ◌+◌, ◌-◌, ◌*◌, ◌/◌
 use Rattle.std.proofs.Common.{◌++◌, length, get_or, take, drop, refl, sym, ap, ◌∙◌, arith, length-append}
 use Rattle.std.proofs.lemmas.List.{take_at, drop_at, drop-drop}
 use Rattle.byteorder.specs.Endian.{big_bytes, big_number}
-use Rattle.byteorder.specs.Numbers.{big_from-append, big_number-reads_back}
+use Rattle.byteorder.specs.Numbers.{big_number-reads_back}
 use Rattle.plum_packet.specs.Capture.{record_of, IsBody, HasRecord}
 use Rattle.plum_packet.specs.Record.{record_end}
 

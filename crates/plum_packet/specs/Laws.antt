@@ -1,5 +1,5 @@
 -- What holds of captures and of segments: the statements of their laws.
-use Rattle.std.specs.Prelude.{◌≡◌, ◌≢◌, ◌<◌, ◌≤◌, ◌⊎◌, ℕ, List, [], ◌∷◌, ◌++◌, length, map, All}
+use Rattle.std.specs.Prelude.{◌≡◌, ◌<◌, ◌≤◌, ◌⊎◌, ℕ, List, [], ◌∷◌, ◌++◌, length, map, All}
 use Rattle.std.specs.Prelude.{Option}
 use Rattle.std.specs.List.{flat_map, enumerate_from, AllByRecursion}
 use mathlib.Core.List.{IsPrefix}

@@ -1,5 +1,5 @@
 -- What lines and texts tell: all that stands in them.
-use Rattle.std.specs.Prelude.{◌≡◌, ◌≢◌, ◌+◌, ◌<◌, ◌≤◌, ℕ, ⊤, List, length, slice_get, All}
+use Rattle.std.specs.Prelude.{◌≡◌, ◌+◌, ◌<◌, ◌≤◌, ℕ, ⊤, List, length, slice_get, All}
 use Rattle.std.specs.Prelude.{Some, option_map}
 use Rattle.std.specs.List.{AllByRecursion}
 use Rattle.plum_scale.specs.Classes.{class_of}

@@ -1,7 +1,6 @@
 use Rattle.std.proofs.Common.{ℕ, ◌<◌, ◌≤◌, inl, inr, length, get_or, arith, leb-true, le-leb}
 use Rattle.std.proofs.lemmas.Bool.{cases_lt}
 use Rattle.std.proofs.Math.Facts.{Fits-lt-pow}
-use Rattle.plum_packet.specs.Capture.{HasRecord}
 use Rattle.plum_packet.specs.Record.{record_end}
 use Rattle.plum_packet.proofs.Captures.{has_record}
 use Rattle.plum_packet.proofs.Spelling.{record_end-le}
