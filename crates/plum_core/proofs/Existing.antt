@@ -27,7 +27,8 @@ use Rattle.plum_seq.specs.Laws.{GreatestIs, NoneGreatest}
 use Rattle.plum_geo.specs.Prediction.{RADIUS}
 use Rattle.plum_geo.specs.Prediction.{shown, corrected, plus_factor, IsNear, is_near}
 use Rattle.plum_geo.specs.Prediction.{distance_squared, FindsNear, IsBest}
-use Rattle.plum_geo.proofs.Predictions.{IsCovered, SaysSome, SaysNone, IsBest-nil, IsBest-push}
+use Rattle.plum_geo.specs.Prediction.{IsAtMost}
+use Rattle.plum_geo.proofs.Predictions.{SaysSome, SaysNone, IsBest-nil, IsBest-push}
 use Rattle.plum_core.specs.declared.event.Event.{Event}
 use Rattle.plum_core.specs.declared.event.Event.TheVariants.{Take, Offer, Pop, Append, Publish}
 use Rattle.plum_core.specs.declared.event.Event.TheVariants.{Read, Learn}
@@ -98,8 +99,8 @@ has_learn_reply s area n = elim (cases_lt s.published n) [
 
 -- one of two that is at least both; none is below each value
 record IsGreater (a b after : Option Tenths) : Type 0 where
-  first : IsCovered a after
-  second : IsCovered b after
+  first : IsAtMost a after
+  second : IsAtMost b after
   one : (after ≡ a) ⊎ (after ≡ b)
 
 -- There is a greater of two.

@@ -10,7 +10,8 @@ use Rattle.std.specs.Prelude.{slice_get, IfSome, IfNone, IsSomeAnd, ℤ, ◌≤�
 use Rattle.plum_base.specs.declared.numbers.Point.{Point}
 use Rattle.plum_base.specs.declared.numbers.Tenths.{Tenths}
 use Rattle.plum_base.specs.declared.sites.StationSite.{StationSite}
-use Rattle.plum_geo.specs.Prediction.{corrected, IsNear, FindsNear, Reports, IsSaid, IsBest}
+use Rattle.plum_geo.specs.Prediction.{corrected, IsAtMost, IsNear, FindsNear, Reports}
+use Rattle.plum_geo.specs.Prediction.{IsSaid, IsBest}
 
 module _ {X : Type 0} where
   -- the element after the others
@@ -42,12 +43,8 @@ module _ {X : Type 0} where
 abbrev Reaches : ℤ → Option Tenths → Type 0
 Reaches z said = IsSomeAnd said (λ t. z ≤ℤ t.0)
 
--- The second is at least the first, if that is something.
-abbrev pub IsCovered : Option Tenths → Option Tenths → Type 0
-IsCovered a b = IfSome a (λ t. IsSomeAnd b (λ r. t.0 ≤ℤ r.0))
-
 -- What is at least another reaches what that one reaches.
-reaches : (a b : Option Tenths) (z : ℤ) → IsCovered a b → Reaches z a → Reaches z b
+reaches : (a b : Option Tenths) (z : ℤ) → IsAtMost a b → Reaches z a → Reaches z b
 reaches None b z more is = absurd is
 reaches (Some t) None z more is = more
 reaches (Some t) (Some r) z more is = omega (arith, ints)
@@ -149,7 +146,7 @@ module _ (values : ℕ → Option Tenths) (place : Point) where
       module _ (before said after : Option Tenths) (best : IsBest stations values place before)
           (says : SaysSome site (length stations) said)
           (silent : SaysNone site (length stations) said)
-          (first : IsCovered before after) (second : IsCovered said after) where
+          (first : IsAtMost before after) (second : IsAtMost said after) where
         -- the greater reaches what each of the stations says
         ReachesAll-push : ReachesAll longer after
         ReachesAll-push n value r =

@@ -5,6 +5,7 @@ use Rattle.std.specs.Prelude.{◌≡◌, ◌↔◌, ℕ, Bool, true, ◌&&◌, �
 use Rattle.std.specs.Prelude.{if◌then◌else◌}
 use Rattle.std.specs.Prelude.{ℤ, pos, nat_abs, neg_ℤ, ◌+ℤ◌, ◌-ℤ◌, ◌≤ℤ◌, ◌+◌, ◌*◌, ◌≤◌}
 use Rattle.std.specs.Prelude.{List, length, filter, slice_get, Option, Some, None}
+use Rattle.std.specs.Prelude.{All, IfSome, IsSomeAnd}
 use Rattle.std.specs.List.{last_or, enumerate_from, Contains}
 use Rattle.std.specs.Option.{option_and_then, option_map}
 use Rattle.plum_base.specs.declared.entry.Entry.{Entry}
@@ -27,6 +28,14 @@ SCALE_HIGH = pos 227
 -- from the one to the other
 abbrev pub IsOnScale : Tenths → Type 0
 IsOnScale t = (SCALE_LOW ≤ℤ t.0) × (t.0 ≤ℤ SCALE_HIGH)
+
+-- each none, or on the scale
+abbrev pub AreOnScale : List (Option Tenths) → Type 0
+AreOnScale values = All (λ value. IfSome value IsOnScale) values
+
+-- None is at most each, and a value is at most the same and any greater value.
+abbrev pub IsAtMost : Option Tenths → Option Tenths → Type 0
+IsAtMost a b = IfSome a (λ t. IsSomeAnd b (λ r. t.0 ≤ℤ r.0))
 
 -- none, or on the scale
 abbrev pub none_or_on_scale : Option Tenths → Bool

@@ -1,15 +1,16 @@
 //! What stations show, and predictions from it by a scan of all stations.
 
-ghost use Rattle.std.specs.Prelude.{◌≡◌, ◌<◌, ◌≤ℤ◌, ◌⊎◌, ℕ, List, [], ◌∷◌, ◌++◌, length, All};
+ghost use Rattle.std.specs.Prelude.{◌≡◌, ◌<◌, ◌⊎◌, ℕ, List, [], ◌∷◌, ◌++◌, length};
 ghost use Rattle.std.specs.Prelude.{replicate};
-ghost use Rattle.std.specs.Prelude.{Option, Some, None, IfSome, IfNone, IsSomeAnd, IfOk, IsTrue};
+ghost use Rattle.std.specs.Prelude.{Option, Some, None, IfSome, IfNone, IfOk, IsTrue};
 ghost use Rattle.plum_base.specs.declared.entry.Entry.{Entry};
 ghost use Rattle.plum_base.specs.declared.numbers.Tenths.{Tenths};
 ghost use Rattle.plum_base.specs.declared.sites.StationSite.{StationSite};
 ghost use Rattle.plum_base.specs.Levels.{IsFactor};
 ghost use Rattle.plum_base.specs.Sites.{IsPlace, AreStations};
-ghost use Rattle.plum_geo.specs.Prediction.{none_or_on_scale, IsOnScale, IsNear, corrected};
-ghost use Rattle.plum_geo.specs.Prediction.{IsBest, plus_factor, IsPredictionOver};
+ghost use Rattle.plum_geo.specs.Prediction.{none_or_on_scale, IsOnScale, AreOnScale, IsNear};
+ghost use Rattle.plum_geo.specs.Prediction.{corrected, IsAtMost, IsBest, plus_factor};
+ghost use Rattle.plum_geo.specs.Prediction.{IsPredictionOver};
 ghost use Rattle.plum_geo.specs.Corrected.{IsOnCorrectedScale};
 ghost use Rattle.plum_geo.specs.Shown.{value_in, AreShown, shown_after};
 
@@ -26,15 +27,15 @@ pub struct Shown {
 }
 
 impl Model for Shown {
-    ghost use Rattle.std.specs.Prelude.{List, Option, All, IfSome};
+    ghost use Rattle.std.specs.Prelude.{List, Option};
     ghost use Rattle.plum_base.specs.declared.numbers.Tenths.{Tenths};
-    ghost use Rattle.plum_geo.specs.Prediction.{IsOnScale};
+    ghost use Rattle.plum_geo.specs.Prediction.{AreOnScale};
 
     ghost Value = { List (Option Tenths) };
 
     ghost view = { λ s. s.values.items };
 
-    ghost invariant = { λ s. All (λ value. IfSome value IsOnScale) s.values.items };
+    ghost invariant = { λ s. AreOnScale s.values.items };
 }
 
 impl Shown {
@@ -150,8 +151,8 @@ pub fn predicted(best: Option<Tenths>, target: &TargetSite) -> Option<Tenths>
 /// The greater of what two stations say; none is below each value.
 pub fn greater_of(a: Option<Tenths>, b: Option<Tenths>) -> Option<Tenths>
     ensures one { (result ≡ a) ⊎ (result ≡ b) }
-    ensures first { IfSome a (λ t. IsSomeAnd result (λ r. t.0 ≤ℤ r.0)) }
-    ensures second { IfSome b (λ t. IsSomeAnd result (λ r. t.0 ≤ℤ r.0)) }
+    ensures first { IsAtMost a result }
+    ensures second { IsAtMost b result }
 {
     a.max(b)
 }
@@ -160,7 +161,7 @@ pub fn greater_of(a: Option<Tenths>, b: Option<Tenths>) -> Option<Tenths>
 fn best_at(stations: &[StationSite], values: &[Option<Tenths>], place: Point) -> Option<Tenths>
     requires stations { AreStations stations.now }
     requires count { length values.now ≡ length stations.now }
-    requires scale { All (λ value. IfSome value IsOnScale) values.now }
+    requires scale { AreOnScale values.now }
     requires place { IsPlace place }
     ensures best { IsBest stations.now (value_in values.now) place result }
     ensures range { IfSome result IsOnCorrectedScale }

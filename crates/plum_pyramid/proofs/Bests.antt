@@ -18,13 +18,13 @@ use Rattle.plum_base.specs.Sites.{IsPlace}
 use Rattle.plum_geo.specs.Corrected.{IsOnCorrectedScale}
 use Rattle.plum_geo.specs.Prediction.{RADIUS, corrected, distance_squared, IsNear, is_near}
 use Rattle.plum_geo.specs.Prediction.{FindsNear}
-use Rattle.plum_geo.specs.Prediction.{Reports, IsSaid, IsBest, IsOnScale}
+use Rattle.plum_geo.specs.Prediction.{Reports, IsAtMost, IsSaid, IsBest, IsOnScale, AreOnScale}
 use Rattle.plum_geo.specs.Shown.{value_in}
 use Rattle.plum_pyramid.specs.declared.layout.Layout.{Layout}
 use Rattle.plum_pyramid.specs.declared.layout.Member.{Member}
-use Rattle.plum_pyramid.specs.Maxima.{said, said_at, IsAtMost, IsGreatest}
+use Rattle.plum_pyramid.specs.Maxima.{said, said_at, IsGreatest}
 use Rattle.plum_pyramid.specs.Pyramid.{PyramidView, Setting, StandsFor, last_set}
-use Rattle.plum_pyramid.specs.Cells.{HasValues, AreOnScale}
+use Rattle.plum_pyramid.specs.Cells.{HasValues}
 use Rattle.plum_pyramid.proofs.Renewals.{listed-at}
 
 -- what a station says comes from its value

@@ -8,7 +8,9 @@ use lib.Signed.{≤ℤ_refl}
 use Rattle.std.specs.Prelude.{slice_get, IfSome}
 use Rattle.plum_base.specs.declared.numbers.Tenths.{Tenths}
 use Rattle.plum_pyramid.specs.declared.layout.Member.{Member}
-use Rattle.plum_pyramid.specs.Maxima.{IsAtMost, IsGreatest}
+use Rattle.plum_geo.specs.Prediction.{IsAtMost}
+use Rattle.plum_geo.proofs.Predictions.{IfSome-one}
+use Rattle.plum_pyramid.specs.Maxima.{IsGreatest}
 
 pub IsAtMost-refl : (a : Option Tenths) → IsAtMost a a
 IsAtMost-refl None = tt
@@ -32,13 +34,6 @@ module _ (says : Member → Option Tenths) (members : List Member) where
   SaidIn-wider a b c d below above None one = tt
   SaidIn-wider a b c d below above (Some t) (p, m, from, to, is, says) =
       (p, m, omega arith, omega arith, is, says)
-
-  -- what holds of two holds of the one of them that is taken
-  pub one_of : (P : Tenths → Type 0) (x y z : Option Tenths) → (z ≡ x) ⊎ (z ≡ y)
-      → IfSome x P → IfSome y P → IfSome z P
-  one_of P x y z either first second =
-      let Q : Option Tenths → Type 0 = λ o. IfSome o P in
-      elim either [ inl same ↦ subst Q (sym same) first | inr same ↦ subst Q (sym same) second ]
 
   -- of none
   pub IsGreatest-nil : (a b : ℕ) → b ≤ a → IsGreatest says members a b None
@@ -88,7 +83,7 @@ module _ (says : Member → Option Tenths) (members : List Member) where
       | inr behind ↦ IsAtMost-trans (says m) y z (second.covers p m behind to is) right
     ];
     one =
-        one_of (SaidIn a c) x y z either
+        IfSome-one (SaidIn a c) x y z either
         (SaidIn-wider a b a c (omega arith) above x first.one)
         (SaidIn-wider b c a c below (omega arith) y second.one);
   }

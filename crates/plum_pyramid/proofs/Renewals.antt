@@ -17,7 +17,8 @@ use Rattle.plum_geo.specs.Square.{IsWithin}
 use Rattle.plum_pyramid.specs.declared.layout.Cell.{Cell}
 use Rattle.plum_pyramid.specs.declared.layout.Layout.{Layout}
 use Rattle.plum_pyramid.specs.declared.layout.Member.{Member}
-use Rattle.plum_pyramid.specs.Maxima.{said, IsAtMost, IsGreatest, CanSay}
+use Rattle.plum_geo.specs.Prediction.{IsAtMost}
+use Rattle.plum_pyramid.specs.Maxima.{said, IsGreatest, CanSay}
 use Rattle.plum_pyramid.specs.Cells.{past, IsCell, IsLaid, HasValues, IsMaximum, IsWithout, cell_at}
 use Rattle.plum_pyramid.specs.Cells.{AreMaxima, AreMaximaWithout, IsRenewed}
 use Rattle.plum_pyramid.proofs.Greatest.{IsGreatest-as, IsGreatest-join, IsGreatest-ends}

@@ -13,7 +13,8 @@ use Rattle.plum_pyramid.specs.declared.layout.Cell.{Cell}
 use Rattle.plum_pyramid.specs.declared.layout.Layout.{Layout}
 use Rattle.plum_pyramid.specs.declared.layout.Member.{Member}
 use Rattle.plum_pyramid.specs.declared.searching.Search.{Search}
-use Rattle.plum_pyramid.specs.Maxima.{said, said_at, IsAtMost, IsGreatest}
+use Rattle.plum_geo.specs.Prediction.{IsAtMost}
+use Rattle.plum_pyramid.specs.Maxima.{said, said_at, IsGreatest}
 use Rattle.plum_pyramid.specs.Cells.{past, IsLaid, IsMaximum, cell_at, HasSearched}
 use Rattle.plum_pyramid.proofs.Greatest.{IsAtMost-refl, IsAtMost-trans, IsGreatest-as}
 use Rattle.plum_pyramid.proofs.Greatest.{IsGreatest-more}

@@ -1,23 +1,21 @@
 -- A pyramid as a whole: where none has a value, and after a station was set.
-use Rattle.std.proofs.Common.{◌≡◌, ℕ, ◌<◌, ◌++◌, List, [], length, take, drop, set, get_or}
+use Rattle.std.proofs.Common.{◌≡◌, ℕ, ◌<◌, List, length, set, get_or}
 use Rattle.std.proofs.Common.{replicate}
 use Rattle.std.proofs.Common.{Option, None, inl, inr, sym, ◌∙◌, ap, subst, arith}
-use Rattle.std.proofs.Common.{append-nil, length-set}
-use Rattle.std.proofs.Math.Seq.{take-length}
+use Rattle.std.proofs.Common.{length-set}
 use Rattle.std.proofs.lemmas.Bool.{cases_lt}
-use Rattle.std.proofs.lemmas.List.{get_or-replicate, get_or_past, drop_all, length-replicate}
+use Rattle.std.proofs.lemmas.List.{get_or-replicate, get_or_past, length-replicate}
 use Rattle.std.proofs.lemmas.List.Elements.{All-replicate, All-set}
 use Rattle.std.proofs.lemmas.Option.{slice_get-get_or}
 use Rattle.std.specs.Option.{option_map}
 use Rattle.std.specs.Prelude.{IfSome, pos}
 use Rattle.plum_base.specs.declared.numbers.Tenths.{Tenths}
 use Rattle.plum_base.specs.declared.sites.StationSite.{StationSite}
-use Rattle.plum_geo.specs.Prediction.{corrected, IsOnScale}
+use Rattle.plum_geo.specs.Prediction.{corrected, IsAtMost, IsOnScale}
 use Rattle.plum_geo.specs.Shown.{value_in}
 use Rattle.plum_pyramid.specs.declared.layout.Cell.{Cell}
 use Rattle.plum_pyramid.specs.declared.layout.Layout.{Layout}
 use Rattle.plum_pyramid.specs.declared.layout.Member.{Member}
-use Rattle.plum_pyramid.specs.Maxima.{IsAtMost}
 use Rattle.plum_pyramid.specs.Cells.{past, IsLaid, HasValues, AreMaxima}
 use Rattle.plum_pyramid.specs.Cells.{IsMaximum, IsRenewed}
 
@@ -103,15 +101,3 @@ module _ (layout : Layout) (laid : IsLaid layout) where
         let root = laid.cells.root in
         renewed.within k (omega arith) (omega arith);
   }
-
--- What was written over all of a list is the list afterwards.
-pub written_over : (length_is : ℕ) (old new : List (Option Tenths)) → length new ≡ length old
-    → length_is ≡ length old
-    → take length_is (new ++ drop (length new) old) ≡ new
-written_over length_is old new same is =
-    let none : drop (length new) old ≡ [] = drop_all (length new) old (omega arith) in
-    let whole : new ++ drop (length new) old ≡ new =
-    ap (λ (rest : List (Option Tenths)). new ++ rest) none ∙ append-nil new in
-    let as_long : length_is ≡ length new = omega arith in
-    ap (λ n. take n (new ++ drop (length new) old)) as_long
-    ∙ ap (take (length new)) whole ∙ take-length new

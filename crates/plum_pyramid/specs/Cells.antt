@@ -2,13 +2,13 @@
 -- within it. The stations stand in an order in which those of a square are a run.
 use Rattle.std.specs.Prelude.{◌≡◌, ◌≢◌, ℕ, ◌+◌, ◌<◌, ◌≤◌, ℤ, pos, ◌+ℤ◌, ◌≤ℤ◌, List, length}
 use Rattle.std.specs.Prelude.{slice_get}
-use Rattle.std.specs.Prelude.{slice_index_or, All, Option, Some, IfSome, ◌⊎◌}
+use Rattle.std.specs.Prelude.{slice_index_or, All, Option, Some, ◌⊎◌}
 use Rattle.std.specs.List.{Contains}
 use Rattle.plum_base.specs.declared.numbers.Point.{Point}
 use Rattle.plum_base.specs.declared.numbers.Tenths.{Tenths}
 use Rattle.plum_base.specs.declared.sites.StationSite.{StationSite}
 use Rattle.plum_base.specs.Sites.{AreStations}
-use Rattle.plum_geo.specs.Prediction.{IsOnScale}
+use Rattle.plum_geo.specs.Prediction.{AreOnScale}
 use Rattle.plum_geo.specs.Shown.{value_in}
 use Rattle.plum_geo.specs.Square.{IsSquare, IsWithin}
 use Rattle.plum_geo.specs.declared.square.Square.{Square}
@@ -88,10 +88,6 @@ pub record AreCellsOf (members : List Member) (cells : List Cell) : Type 0 where
 pub record IsLaid (layout : Layout) : Type 0 where
   pub members : AreMembers layout.stations.items layout.members.items
   pub cells : AreCellsOf layout.members.items layout.cells.items
-
--- each none, or on the scale
-abbrev pub AreOnScale : List (Option Tenths) → Type 0
-AreOnScale values = All (λ value. IfSome value IsOnScale) values
 
 -- what each station has, by its number
 pub record HasValues (layout : Layout) (values : List (Option Tenths)) : Type 0 where

@@ -1,12 +1,12 @@
 -- What stations in some order say, and the greatest of it over a run of them.
-use Rattle.std.specs.Prelude.{◌≡◌, ◌⊎◌, ℕ, ◌<◌, ◌≤◌, ◌≤ℤ◌, if◌then◌else◌, List, length}
-use Rattle.std.specs.Prelude.{slice_get, Option, Some, None, IfSome, IsSomeAnd}
+use Rattle.std.specs.Prelude.{◌≡◌, ◌⊎◌, ℕ, ◌<◌, ◌≤◌, if◌then◌else◌, List, length}
+use Rattle.std.specs.Prelude.{slice_get, Option, Some, None, IfSome}
 use Rattle.std.specs.Option.{option_map}
 use Rattle.plum_base.specs.declared.numbers.Point.{Point}
 use Rattle.plum_base.specs.declared.numbers.Tenths.{Tenths}
 use Rattle.plum_base.specs.Levels.{IsFactor}
 use Rattle.plum_base.specs.Sites.{IsPlace}
-use Rattle.plum_geo.specs.Prediction.{corrected, is_near}
+use Rattle.plum_geo.specs.Prediction.{corrected, is_near, IsAtMost}
 use Rattle.plum_geo.specs.Square.{LiesAs}
 use Rattle.plum_geo.specs.declared.square.Place.{Place}
 use Rattle.plum_geo.specs.declared.square.Place.TheVariants.{Inside, Outside, Cut}
@@ -22,10 +22,6 @@ said values m =
 -- what it says at a place: none where it is not near
 abbrev pub said_at : List (Option Tenths) → Point → Member → Option Tenths
 said_at values place m = if is_near m.site.at place then said values m else None
-
--- None is at most each, and a value is at most the same and any greater value.
-abbrev pub IsAtMost : Option Tenths → Option Tenths → Type 0
-IsAtMost a b = IfSome a (λ t. IsSomeAnd b (λ r. t.0 ≤ℤ r.0))
 
 -- The greatest of what is said by those from position a up to b, without b: it is at least what
 -- each of them says, and one of them says it; none where none of them says anything.

@@ -3,7 +3,7 @@
 ghost use Rattle.std.specs.Prelude.{◌≡◌, ◌<◌, ◌≤◌, length, All, IfSome};
 ghost use Rattle.plum_base.specs.Sites.{IsPlace};
 ghost use Rattle.plum_geo.specs.Corrected.{IsOnCorrectedScale};
-ghost use Rattle.plum_pyramid.specs.Cells.{AreOnScale};
+ghost use Rattle.plum_geo.specs.Prediction.{AreOnScale};
 ghost use Rattle.plum_pyramid.specs.Maxima.{said, said_at, CanSay, IsGreatest};
 
 use crate::layout::Member;

@@ -4,7 +4,8 @@ ghost use Rattle.std.specs.Prelude.{◌≡◌, ◌↔◌, ◌<◌, length, IsTru
 ghost use Rattle.plum_base.specs.Sites.{IsPlace};
 ghost use Rattle.plum_geo.specs.Square.{IsSquare};
 ghost use Rattle.plum_pyramid.specs.Cells.{HasValues, AreMaxima, HasSearched};
-ghost use Rattle.plum_pyramid.specs.Maxima.{said_at, IsAtMost, IsAnswer, IsGreatest};
+ghost use Rattle.plum_geo.specs.Prediction.{IsAtMost};
+ghost use Rattle.plum_pyramid.specs.Maxima.{said_at, IsAnswer, IsGreatest};
 
 use crate::layout::Layout;
 use crate::maxima::greatest_said_at;

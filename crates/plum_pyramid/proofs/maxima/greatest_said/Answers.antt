@@ -2,7 +2,8 @@ use Rattle.std.proofs.Common.{◌+◌, ◌<◌, length, get_or, arith}
 use Rattle.std.proofs.lemmas.Option.{slice_get-get_or}
 use Rattle.plum_geo.specs.Corrected.{IsOnCorrectedScale}
 use Rattle.plum_pyramid.specs.Maxima.{said}
-use Rattle.plum_pyramid.proofs.Greatest.{IsGreatest-one, IsGreatest-join, one_of}
+use Rattle.plum_geo.proofs.Predictions.{IfSome-one}
+use Rattle.plum_pyramid.proofs.Greatest.{IsGreatest-one, IsGreatest-join}
 use Rattle.plum_pyramid.proofs.Holding.{blank}
 use Rattle.plum_pyramid.proofs.maxima.greatest_said.Goals as goal
 
@@ -23,6 +24,6 @@ loop-p-preserved c =
           (slice_get-get_or members p blank within) own c.said.ensures.value)
           greater.one greater.first greater.second;
       range =
-          one_of (said c.args.values.now) members IsOnCorrectedScale so_far own after greater.one
+          IfSome-one IsOnCorrectedScale so_far own after greater.one
           c.loop-p.invariant.range c.said.ensures.range;
     }

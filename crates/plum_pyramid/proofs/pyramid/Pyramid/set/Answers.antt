@@ -1,11 +1,12 @@
 use Rattle.std.proofs.Common.{◌≡◌, List, [], ◌∷◌, ◌++◌, length, set, Option, sym, ap, subst, arith}
 use Rattle.std.proofs.Common.{length-set}
+use Rattle.std.proofs.lemmas.List.{with_items_is}
 use Rattle.plum_base.specs.declared.numbers.Tenths.{Tenths}
 use Rattle.plum_pyramid.specs.Cells.{HasValues, AreMaxima, AreMaximaWithout, IsRenewed}
 use Rattle.plum_pyramid.specs.Pyramid.{PyramidView, Setting, StandsFor, pyramid_after}
 use Rattle.plum_pyramid.proofs.Renewals.{AreMaximaWithout-set}
 use Rattle.plum_pyramid.proofs.Sets.{StandsFor-set}
-use Rattle.plum_pyramid.proofs.Wholes.{HasValues-set, cells-some, AreMaxima-renewed, written_over}
+use Rattle.plum_pyramid.proofs.Wholes.{HasValues-set, cells-some, AreMaxima-renewed}
 use Rattle.plum_pyramid.proofs.pyramid.Pyramid.set.Goals as goal
 
 pub renew-requires-clause-values : goal.renew-requires-clause-values
@@ -66,7 +67,7 @@ invariant_of-self c =
     in (
       HasValues-set layout laid values c.args.station.0 c.args.value c.requires.scale has,
       subst (λ (ms : List (Option Tenths)). AreMaxima layout set_values ms)
-          (sym (written_over c.self.inside.maxima.len old new as_long (omega arith))) maxima,
+          (sym (with_items_is c.self.inside.maxima new (omega arith))) maxima,
     )
 
 pub returns-clause-exact : goal.returns-clause-exact
