@@ -1,19 +1,18 @@
 -- From counts to the squared vector amplitude, over a whole run (the project's own fixed point; the
 -- vector amplitude of the three filtered components is that of the JMA intensity).
-use Rattle.std.specs.Prelude.{◌≡◌, ℕ, ◌+◌, ◌*◌, ◌^◌, ◌<◌, ◌≤◌, ℤ, pos, nat_abs, ◌*ℤ◌, List, map}
+use Rattle.std.specs.Prelude.{◌≡◌, ℕ, ◌+◌, ◌*◌, ◌<◌, ◌≤◌, ℤ, pos, nat_abs, ◌*ℤ◌, List, map}
 use Rattle.std.specs.Prelude.{length, slice_index}
 use Rattle.std.specs.List.{range_with_len}
-use Rattle.std.specs.Int.{int_div_euclid}
+use Rattle.plum_base.specs.declared.cascade.Rounding.TheVariants.{Floor}
 use Rattle.plum_base.specs.declared.setup.Gain.{Gain}
 use Rattle.plum_base.specs.declared.setup.Setup.{Setup}
 use Rattle.plum_base.specs.declared.wave.Sample.{Sample}
 use Rattle.plum_base.specs.Levels.{GREATEST_AMPLITUDE}
-use Rattle.plum_filter.specs.Stage.{clamped, term, cascade_output}
+use Rattle.plum_filter.specs.Stage.{clamped, rounded, term, cascade_output}
 
--- The gain rule: count * g / 2^h, rounded down and clamped. (At a positive divisor Euclid's
--- quotient is the one rounded down.)
+-- the gain rule: count * g / 2^h, rounded down and clamped
 abbrev pub signal_of : Gain → ℤ → ℤ
-signal_of gain count = clamped (int_div_euclid (count *ℤ pos gain.g) (pos (2 ^ gain.h)))
+signal_of gain count = clamped (rounded Floor (count *ℤ pos gain.g) gain.h)
 
 -- The signal of a component over a run: the gain rule at each index. A component is the x, the y or
 -- the z of each sample.
