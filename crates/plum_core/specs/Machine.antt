@@ -1,27 +1,25 @@
 -- The machine of a centre (the project's own): what stations' lanes, the queue, the gatherer, the
 -- publisher and the sessions do, one step of one of them at a time. Threads take these steps in
 -- whatever order.
-use Rattle.std.specs.Prelude.{◌≡◌, ◌≢◌, ℕ, ◌+◌, ◌<◌, ◌≤◌, ⊤, true, ◌==◌, nat_le, max}
+use Rattle.std.specs.Prelude.{◌≡◌, ◌≢◌, ℕ, ◌+◌, ◌<◌, ◌≤◌, ⊤, ◌==◌, nat_le, max}
 use Rattle.std.specs.Prelude.{if◌then◌else◌, List, [], ◌∷◌, ◌++◌, length, take, slice_get, Option}
 use Rattle.std.specs.Prelude.{Some, None, IsSome, IsSomeAnd}
 use Rattle.plum_base.specs.declared.answers.Reading.{Reading}
 use Rattle.plum_base.specs.declared.entry.Entry.{Entry}
-use Rattle.plum_base.specs.declared.lane.Took.TheVariants as tooks
 use Rattle.plum_base.specs.declared.lane.Offered.TheVariants as offers
 use Rattle.plum_base.specs.declared.numbers.AreaNo.{AreaNo}
 use Rattle.plum_base.specs.declared.packet.Packet.{Packet}
 use Rattle.plum_base.specs.declared.setup.Setup.{Setup}
 use Rattle.plum_base.specs.Sites.{SitesView, areas_of}
 use Rattle.plum_base.specs.Lane.{lane_of}
-use Rattle.plum_seq.specs.Keys.{keys_of, is_kept}
-use Rattle.plum_seq.specs.Verdicts.{IsVerdict}
-use Rattle.plum_seq.specs.declared.seq.Verdict.TheVariants as verdicts
+use Rattle.plum_seq.specs.Keys.{is_kept}
 use Rattle.plum_core.specs.declared.event.Event.{Event}
 use Rattle.plum_core.specs.declared.event.Event.TheVariants.{Take, Offer, Pop, Append, Publish}
 use Rattle.plum_core.specs.declared.event.Event.TheVariants.{Read, Learn}
 use Rattle.plum_core.specs.declared.event.Reply.{Reply}
 use Rattle.plum_core.specs.declared.event.Reply.TheVariants as replies
 use Rattle.plum_core.specs.History.{entry_of}
+use Rattle.plum_core.specs.Station.{IsTold}
 use Rattle.plum_core.specs.Transcript.{ArePredictions}
 use Rattle.plum_base.specs.Sites.{targets_of}
 
@@ -111,15 +109,10 @@ abbrev pub state_after : Setup → State → List Event → State
 state_after setup s [] = s
 state_after setup s (e ∷ es) = state_after setup (step setup s e) es
 
--- The reply to a packet: held where an entry waits; else a repeat, with the greatest earlier key of
--- its station, where it is not kept.
+-- The reply to a packet: held where an entry waits; else what is told of it after those before it.
 abbrev pub IsTakeReply : Lane → Packet → Reply → Type 0
 IsTakeReply lane p replies.Held = IsSome lane.waiting
-IsTakeReply lane p (replies.Took (tooks.Repeat last)) =
-    (lane.waiting ≡ None)
-    × IsVerdict (keys_of p.station.0 lane.taken) p.key (verdicts.Repeat last)
-IsTakeReply lane p (replies.Took tooks.Ready) =
-    (lane.waiting ≡ None) × (is_kept lane.taken p ≡ true)
+IsTakeReply lane p (replies.Took took) = (lane.waiting ≡ None) × IsTold lane.taken p took
 IsTakeReply lane p _ = ⊥
 
 -- The reply to an offer: idle where nothing waits; busy where the queue is full; else sent.

@@ -2,6 +2,8 @@
 use Rattle.std.specs.Prelude.{◌≡◌, ℕ, ◌<◌, ◌==◌, true, if◌then◌else◌, List, [], ◌∷◌, ◌++◌}
 use Rattle.std.specs.Prelude.{length, slice_index_or, Option, Some, None}
 use Rattle.plum_base.specs.declared.entry.Entry.{Entry}
+use Rattle.plum_base.specs.declared.lane.Took.{Took}
+use Rattle.plum_base.specs.declared.lane.Took.TheVariants as tooks
 use Rattle.plum_base.specs.declared.packet.Packet.{Packet}
 use Rattle.plum_base.specs.declared.numbers.LaneNo.{LaneNo}
 use Rattle.plum_base.specs.declared.setup.Setup.{Setup}
@@ -29,10 +31,16 @@ pub record IsEntryOf (setup : Setup) (earlier : List Packet) (lane : LaneNo) (pa
   pub fresh : e.fresh ≡ is_fresh earlier packet
   pub value : IsValueOf setup (of_station packet.station.0 (earlier ++ packet ∷ [])) e.value
 
+-- What is told of a packet after these: ready where it is kept; else a repeat, with the greatest
+-- key before it.
+abbrev pub IsTold : List Packet → Packet → Took → Type 0
+IsTold earlier packet tooks.Ready = is_kept earlier packet ≡ true
+IsTold earlier packet (tooks.Repeat last) =
+    IsVerdict (keys_of packet.station.0 earlier) packet.key (verdicts.Repeat last)
+
 -- A packet after these gives its entry where it is kept; a repeat tells the greatest key before it.
 abbrev pub Gives : Setup → List Packet → LaneNo → Packet → Taken → Type 0
-Gives setup earlier lane packet (Repeat last) =
-    IsVerdict (keys_of packet.station.0 earlier) packet.key (verdicts.Repeat last)
+Gives setup earlier lane packet (Repeat last) = IsTold earlier packet (tooks.Repeat last)
 Gives setup earlier lane packet (Kept e) = IsEntryOf setup earlier lane packet e
 
 -- what waits in a lane after it: the entry of a kept packet, and nothing after a repeat

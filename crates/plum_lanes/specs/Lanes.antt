@@ -11,13 +11,11 @@ use Rattle.plum_base.specs.declared.lane.Took.{Took}
 use Rattle.plum_base.specs.declared.lane.Took.TheVariants.{Ready, Repeat}
 use Rattle.plum_base.specs.declared.packet.Packet.{Packet}
 use Rattle.plum_base.specs.Lane.{lane_of}
-use Rattle.plum_seq.specs.Keys.{keys_of, is_kept, kept}
-use Rattle.plum_seq.specs.Verdicts.{IsVerdict}
-use Rattle.plum_seq.specs.declared.seq.Verdict.TheVariants as verdicts
+use Rattle.plum_seq.specs.Keys.{kept}
 use Rattle.plum_core.specs.declared.station.Station.{Station}
 use Rattle.plum_core.specs.Facts.{IsInLaneOrder, IsBacklog}
 use Rattle.plum_core.specs.History.{IsValidHistory}
-use Rattle.plum_core.specs.Station.{Stands}
+use Rattle.plum_core.specs.Station.{Stands, IsTold}
 use Rattle.plum_lanes.specs.declared.lanes.Lane.{Lane}
 use Rattle.plum_lanes.specs.declared.rule.Basis.{Basis}
 use Rattle.plum_lanes.specs.Opening.{Opening}
@@ -81,13 +79,11 @@ IsForLane opening number p =
     (p.station.0 < opening.basis.stations)
     × (lane_of opening.basis.setup.lanes p.station.0 ≡ number)
 
--- What a lane tells of a packet after these: a kept packet's entry waits; a repeat tells the
--- greatest key before it, and nothing waits.
+-- What a lane tells of a packet after these: a kept packet's entry waits; after a repeat nothing
+-- does.
 abbrev pub Tells : List Packet → Packet → Took → Lane → Type 0
-Tells taken p Ready after = (is_kept taken p ≡ true) × IsSome (waiting_in after)
-Tells taken p (Repeat last) after =
-    IsVerdict (keys_of p.station.0 taken) p.key (verdicts.Repeat last)
-    × (waiting_in after ≡ None)
+Tells taken p Ready after = IsTold taken p Ready × IsSome (waiting_in after)
+Tells taken p (Repeat last) after = IsTold taken p (Repeat last) × (waiting_in after ≡ None)
 
 -- It counts a kept packet, or a repeat, and no more.
 abbrev pub Counts : Lane → Took → Lane → Type 0
