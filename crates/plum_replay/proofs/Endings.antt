@@ -1,5 +1,5 @@
 -- The end of a replay: the tail, and the totals.
-use Rattle.std.proofs.Common.{◌≡◌, ℕ, List, [], ◌∷◌, ◌++◌, length, sym, ap, ap₂, ◌∙◌, append_assoc}
+use Rattle.std.proofs.Common.{◌≡◌, ℕ, List, ◌++◌, length, sym, ap, ap₂, ◌∙◌, append_assoc}
 use Rattle.std.specs.List.{flat_map}
 use Rattle.plum_base.specs.declared.counts.Counts.{Counts}
 use Rattle.plum_base.specs.declared.setup.Setup.{Setup}
@@ -7,9 +7,8 @@ use Rattle.plum_base.specs.declared.sites.TargetSite.{TargetSite}
 use Rattle.plum_base.specs.Sites.{SitesView}
 use Rattle.plum_packet.specs.Segments.{Decoded}
 use Rattle.plum_core.specs.Transcript.{Transcript}
-use Rattle.plum_text.specs.declared.lines.OutLine.TheVariants.{Tail}
 use Rattle.plum_text.specs.Lines.{out_line}
-use Rattle.plum_text.specs.Texts.{Section, totals_of, totals_line, out_text}
+use Rattle.plum_text.specs.Texts.{Section, totals_of, end_lines, out_text}
 use Rattle.plum_replay.specs.declared.centre.Centre.{Centre}
 use Rattle.plum_replay.specs.declared.totals.Totals.{Totals}
 use Rattle.plum_replay.specs.Centre.{HasReplayed}
@@ -21,7 +20,7 @@ use Rattle.plum_replay.proofs.PartTexts.{out_text-parts}
 -- what the output tells in the end
 abbrev pub end_text : ℕ → Counts → ℕ → List ℕ
 end_text segments counts tail =
-    flat_map out_line (Tail tail ∷ totals_line segments counts ∷ [])
+    flat_map out_line (end_lines tail segments counts)
 
 -- the totals by their parts
 made : ℕ → Counts → ℕ → Totals

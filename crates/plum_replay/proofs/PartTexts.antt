@@ -19,12 +19,11 @@ use Rattle.plum_base.specs.declared.sites.StationSite.{StationSite}
 use Rattle.plum_base.specs.declared.sites.TargetSite.{TargetSite}
 use Rattle.plum_base.specs.Sites.{areas_of}
 use Rattle.plum_text.specs.declared.lines.OutLine.{OutLine}
-use Rattle.plum_text.specs.declared.lines.OutLine.TheVariants.{Tail}
 use Rattle.plum_text.specs.Lines.{journal_line, out_line}
 use Rattle.plum_base.specs.Note.{note_of}
 use Rattle.plum_text.specs.Texts.{Section, notes_from, line_of_note, lines_from}
 use Rattle.plum_text.specs.Texts.{journal_text, answer_line, area_lines, areas_lines}
-use Rattle.plum_text.specs.Texts.{section_lines, sections_lines, totals_of, totals_line, out_text}
+use Rattle.plum_text.specs.Texts.{section_lines, sections_lines, totals_of, end_lines, out_text}
 use Rattle.plum_replay.specs.Parts.{notes_text, section_text, sections_text}
 
 -- the entries of a part, each as a note of a segment
@@ -112,7 +111,7 @@ sections_text-push targets sections section =
 -- An output is its sections and its end.
 pub out_text-parts : (targets : List TargetSite) (sections : List Section) (tail : ℕ)
     → out_text targets sections tail ≡ sections_text targets sections ++ flat_map out_line
-    (Tail tail ∷ totals_line (length sections) (totals_of sections) ∷ [])
+    (end_lines tail (length sections) (totals_of sections))
 out_text-parts targets sections tail =
     flat_map-append out_line (sections_lines targets 1 sections) _
 

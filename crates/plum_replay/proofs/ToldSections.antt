@@ -15,13 +15,12 @@ use Rattle.plum_base.specs.declared.sites.TargetSite.{TargetSite}
 use Rattle.plum_base.specs.Name.{IsName}
 use Rattle.plum_base.specs.Sites.{areas_of, targets_of, first_appearances}
 use Rattle.plum_text.specs.declared.lines.OutLine.{OutLine}
-use Rattle.plum_text.specs.declared.lines.OutLine.TheVariants.{Refused, Tail}
 use Rattle.plum_text.specs.Fields.{Fits, FitsValue}
 use Rattle.plum_text.specs.Laws.{SectionsCanBeTold}
 use Rattle.plum_text.specs.Lines.{FitsOut}
 use Rattle.plum_text.specs.Texts.{Section, IsWhole, answer_lines, alert_lines, area_lines}
 use Rattle.plum_text.specs.Texts.{areas_lines, section_lines, sections_lines, totals_of}
-use Rattle.plum_text.specs.Texts.{totals_line, out_lines}
+use Rattle.plum_text.specs.Texts.{refused_lines, end_lines, out_lines}
 use Rattle.plum_replay.proofs.Lists.{All-both, All-passing}
 use Rattle.plum_replay.proofs.Decodings.{CanBeRefused}
 
@@ -55,7 +54,7 @@ named_areas (name ∷ names) are =
 
 -- refused bodies
 refused_fit : (rs : List RefusedBody) → AllByRecursion CanBeRefused rs
-    → AllByRecursion FitsOut (map (λ r. Refused r.number r.fault) rs)
+    → AllByRecursion FitsOut (refused_lines rs)
 refused_fit [] are = tt
 refused_fit (r ∷ rs) are = (are.0, refused_fit rs are.1)
 
@@ -111,7 +110,7 @@ module _ (m : ℕ) (mark_fits : m < 2 ^ 32) where
         let repeats = counts.repeats in
         let refused = counts.refused in
         let areas = areas_of targets in
-        let told : List OutLine = map (λ r. Refused r.number r.fault) s.refused in (
+        let told : List OutLine = refused_lines s.refused in (
           (mark_fits, few, omega arith, omega arith, omega arith),
           All-both FitsOut told (areas_lines targets m areas s.readings s.alerts)
               (refused_fit s.refused shown.refused)
@@ -186,7 +185,7 @@ pub sections_told : (targets : List TargetSite) (ss : List Section) (tail : ℕ)
 sections_told targets ss tail named areas few bodies short shown =
     let names = named_areas (map (λ t. t.area) targets) areas in
     let less = counts_less targets ss shown in
-    let ends : AllByRecursion FitsOut (Tail tail ∷ totals_line (length ss) (totals_of ss) ∷ []) = (
+    let ends : AllByRecursion FitsOut (end_lines tail (length ss) (totals_of ss)) = (
       short,
       (
         (few, bodies, omega (arith, less.0), omega (arith, less.1), omega (arith, less.2)),
@@ -195,7 +194,7 @@ sections_told targets ss tail named areas few bodies short shown =
     ) in
     let lines =
     All-both FitsOut (sections_lines targets 1 ss)
-    (Tail tail ∷ totals_line (length ss) (totals_of ss) ∷ [])
+    (end_lines tail (length ss) (totals_of ss))
     (sections_fit targets named names 1 ss (omega arith) bodies shown) ends in
     record {
       whole = All-from_recursion (IsWhole targets) ss (sections_whole targets ss shown);

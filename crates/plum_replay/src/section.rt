@@ -5,9 +5,8 @@ ghost use Rattle.std.specs.List.{flat_map};
 ghost use Rattle.plum_base.specs.declared.sites.TargetSite.{TargetSite};
 ghost use Rattle.plum_base.specs.Sites.{areas_of, targets_of};
 ghost use Rattle.plum_text.specs.Lines.{out_line};
-ghost use Rattle.plum_text.specs.declared.lines.OutLine.TheVariants.{Refused, Tail};
 ghost use Rattle.plum_text.specs.Texts.{answer_line, answer_lines, area_lines, areas_lines};
-ghost use Rattle.plum_text.specs.Texts.{alert_lines, totals_line};
+ghost use Rattle.plum_text.specs.Texts.{alert_lines, mark_line, refused_lines, end_lines};
 ghost use Rattle.plum_base.specs.Sites.{AreNumbersOf};
 ghost use Rattle.plum_replay.specs.Areas.{AreByArea};
 ghost use Rattle.plum_replay.specs.Parts.{section_text};
@@ -49,8 +48,7 @@ impl Model for Section {
 
 /// The counts of segment `m`, at its mark.
 fn mark_line(m: u32, counts: &Counts) -> OutLine
-    ensures { result ≡ OutLine.Mark m counts.now.bodies counts.now.kept counts.now.repeats
-        counts.now.refused }
+    ensures { result ≡ mark_line m counts.now }
 {
     OutLine::Mark {
         m,
@@ -64,7 +62,7 @@ fn mark_line(m: u32, counts: &Counts) -> OutLine
 /// A line for each refused body.
 fn put_refused(out: &mut Bytes, refused: &[RefusedBody]) -> Result<(), NoMemory>
     ensures { OnOk result (out.new
-        ≡ out.old ++ flat_map out_line (map (λ r. Refused r.number r.fault) refused.now)) }
+        ≡ out.old ++ flat_map out_line (refused_lines refused.now)) }
 {
     for body in refused {
         let line = OutLine::Refused {
@@ -203,9 +201,8 @@ pub fn put_section(
 
 /// Appends what the output tells in the end: the length of the tail, and the totals.
 pub fn put_end(out: &mut Bytes, totals: &Totals) -> Result<(), NoMemory>
-    ensures { OnOk result (out.new ≡ out.old
-        ++ flat_map out_line (Tail totals.now.tail
-        ∷ totals_line totals.now.segments (counts_in_all totals.now) ∷ [])) }
+    ensures { OnOk result (out.new ≡ out.old ++ flat_map out_line
+        (end_lines totals.now.tail totals.now.segments (counts_in_all totals.now))) }
 {
     write_out(out, &OutLine::Tail { bytes: totals.tail })?;
     let line = OutLine::Totals {

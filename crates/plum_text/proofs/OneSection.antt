@@ -1,5 +1,5 @@
 -- The lines of an output tell its sections and the length of its tail.
-use Rattle.std.proofs.Common.{◌≡◌, ℕ, ◌+◌, List, [], ◌∷◌, ◌++◌, map, Option, refl, sym, ◌∙◌}
+use Rattle.std.proofs.Common.{◌≡◌, ℕ, ◌+◌, List, [], ◌∷◌, ◌++◌, Option, refl, sym, ◌∙◌}
 use Rattle.std.proofs.Common.{ap₂, subst, append_assoc}
 use Rattle.std.specs.List.{AllByRecursion}
 use Rattle.plum_base.specs.declared.answers.Reading.{Reading}
@@ -9,8 +9,9 @@ use Rattle.plum_base.specs.declared.rules.Alert.{Alert}
 use Rattle.plum_base.specs.declared.sites.TargetSite.{TargetSite}
 use Rattle.plum_base.specs.Sites.{areas_of}
 use Rattle.plum_text.specs.declared.lines.OutLine.{OutLine}
-use Rattle.plum_text.specs.declared.lines.OutLine.TheVariants.{Mark, Refused, Tail}
-use Rattle.plum_text.specs.Texts.{Section, IsWhole, areas_lines, section_lines, sections_lines}
+use Rattle.plum_text.specs.declared.lines.OutLine.TheVariants.{Refused, Tail}
+use Rattle.plum_text.specs.Texts.{Section, IsWhole, mark_line, refused_lines, areas_lines}
+use Rattle.plum_text.specs.Texts.{section_lines, sections_lines}
 use Rattle.plum_text.proofs.OneArea.{cons_same, NoAlertFirst, same_areas}
 
 -- The first of these lines is no refused body.
@@ -18,10 +19,6 @@ abbrev NoRefusedFirst : List OutLine → Type 0
 NoRefusedFirst [] = Unit {0}
 NoRefusedFirst (Refused number fault ∷ ls) = ⊥
 NoRefusedFirst (l ∷ ls) = Unit {0}
-
--- the lines of these refused bodies
-abbrev refused_lines : List RefusedBody → List OutLine
-refused_lines refused = map (λ r. Refused r.number r.fault) refused
 
 -- refused bodies up to a line that is none
 same_refused : (rs qs : List RefusedBody) (x y : List OutLine) → NoRefusedFirst x
@@ -66,13 +63,9 @@ same_parts : (b₁ b₂ k₁ k₂ r₁ r₂ f₁ f₂ : ℕ) (bad₁ bad₂ : Li
     → section_of b₁ k₁ r₁ f₁ bad₁ read₁ a₁ ≡ section_of b₂ k₂ r₂ f₂ bad₂ read₂ a₂
 same_parts b₁ b₂ k₁ k₂ r₁ r₂ f₁ f₂ bad₁ bad₂ read₁ read₂ a₁ a₂ b k r f bad read a = cc
 
--- the mark of a section
-abbrev mark_of : ℕ → Section → OutLine
-mark_of m s = Mark m s.counts.bodies s.counts.kept s.counts.repeats s.counts.refused
-
 -- the same section, from the same mark and the same parts
-same_made : (m : ℕ) (s q : Section) → mark_of m s ≡ mark_of m q → s.refused ≡ q.refused
-    → s.readings ≡ q.readings → s.alerts ≡ q.alerts → s ≡ q
+same_made : (m : ℕ) (s q : Section) → mark_line m s.counts ≡ mark_line m q.counts
+    → s.refused ≡ q.refused → s.readings ≡ q.readings → s.alerts ≡ q.alerts → s ≡ q
 unfolding section_of
 same_made m s q marks refused readings alerts =
     let bodies : s.counts.bodies ≡ q.counts.bodies = let e = marks in cc in
@@ -96,7 +89,7 @@ same_section targets m s q x y ws wq nx ny e =
     let told = areas_lines targets m areas s.readings s.alerts in
     let others = areas_lines targets m areas q.readings q.alerts in
     let cut =
-    cons_same (mark_of m s) (mark_of m q) ((refused_lines s.refused ++ told) ++ x)
+    cons_same (mark_line m s.counts) (mark_line m q.counts) ((refused_lines s.refused ++ told) ++ x)
     ((refused_lines q.refused ++ others) ++ y) e in
     let rest : refused_lines s.refused ++ (told ++ x) ≡ refused_lines q.refused ++ (others ++ y) =
     sym (append_assoc (refused_lines s.refused) told x) ∙ cut.1

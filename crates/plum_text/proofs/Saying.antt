@@ -24,7 +24,8 @@ use Rattle.plum_text.specs.declared.lines.OutLine.TheVariants.{Mark, Refused, Ta
 use Rattle.plum_text.specs.declared.lines.OutLine.TheVariants.{Reading as ReadingLine}
 use Rattle.plum_text.specs.declared.lines.OutLine.TheVariants.{Alert as AlertLine}
 use Rattle.plum_text.specs.Texts.{Section, answer_line, answer_lines, alert_lines}
-use Rattle.plum_text.specs.Texts.{area_lines, areas_lines, section_lines, sections_lines, out_lines}
+use Rattle.plum_text.specs.Texts.{area_lines, areas_lines, refused_lines, section_lines}
+use Rattle.plum_text.specs.Texts.{sections_lines, out_lines}
 use Rattle.plum_base.specs.Note.{note_of}
 use Rattle.plum_text.specs.Texts.{totals_of, totals_line, notes_from, lines_from}
 use Rattle.plum_text.specs.Texts.{journal_lines}
@@ -72,7 +73,7 @@ module _ (P : OutLine → Type 0) (IsMark : ℕ → Type 0) (AreCounts : Counts 
       )
       (of_areas m at areas readings alerts)
 
-  of_refused : (bodies : List RefusedBody) → Holds (map (λ r. Refused r.number r.fault) bodies)
+  of_refused : (bodies : List RefusedBody) → Holds (refused_lines bodies)
   of_refused [] = tt
   of_refused (r ∷ bodies) = (refused r.number r.fault, of_refused bodies)
 
@@ -83,7 +84,7 @@ module _ (P : OutLine → Type 0) (IsMark : ℕ → Type 0) (AreCounts : Counts 
       let at : IsMark m = marks m (omega arith) (omega arith) in
       joined P (section_lines targets m s) (sections_lines targets (m + 1) ss) (
         mark m s.counts at counts.0,
-        joined P (map (λ r. Refused r.number r.fault) s.refused)
+        joined P (refused_lines s.refused)
             (areas_lines targets m (areas_of targets) s.readings s.alerts)
             (of_refused s.refused) (of_areas m at (areas_of targets) s.readings s.alerts),
       )

@@ -96,11 +96,18 @@ areas_lines targets m (area ∷ areas) (reading ∷ readings) (alert ∷ alerts)
     area_lines targets m area reading alert ++ areas_lines targets m areas readings alerts
 areas_lines targets m areas readings alerts = []
 
+-- the line of the counts at mark m
+abbrev pub mark_line : ℕ → Counts → OutLine
+mark_line m c = Mark m c.bodies c.kept c.repeats c.refused
+
+-- the lines of refused bodies
+abbrev pub refused_lines : List RefusedBody → List OutLine
+refused_lines refused = map (λ r. Refused r.number r.fault) refused
+
 -- the section of mark m: its counts, its refused bodies in the order of the records, and its areas
 abbrev pub section_lines : List TargetSite → ℕ → Section → List OutLine
 section_lines targets m s =
-    Mark m s.counts.bodies s.counts.kept s.counts.repeats s.counts.refused
-    ∷ map (λ r. Refused r.number r.fault) s.refused
+    mark_line m s.counts ∷ refused_lines s.refused
     ++ areas_lines targets m (areas_of targets) s.readings s.alerts
 
 abbrev pub sections_lines : List TargetSite → ℕ → List Section → List OutLine
@@ -120,10 +127,14 @@ totals_of sections = record {
 abbrev pub totals_line : ℕ → Counts → OutLine
 totals_line segments c = Totals segments c.bodies c.kept c.repeats c.refused
 
+-- the last two lines: the length of the tail, and the totals over so many segments
+abbrev pub end_lines : ℕ → ℕ → Counts → List OutLine
+end_lines tail segments c = Tail tail ∷ totals_line segments c ∷ []
+
 -- the lines of an output: the sections of all marks, from 1, the length of the tail, and the totals
 abbrev pub out_lines : List TargetSite → List Section → ℕ → List OutLine
-out_lines targets sections tail = sections_lines targets 1 sections
-    ++ Tail tail ∷ totals_line (length sections) (totals_of sections) ∷ []
+out_lines targets sections tail =
+    sections_lines targets 1 sections ++ end_lines tail (length sections) (totals_of sections)
 
 -- the text of an output
 abbrev pub out_text : List TargetSite → List Section → ℕ → List ℕ
