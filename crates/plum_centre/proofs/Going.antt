@@ -5,7 +5,7 @@ use Rattle.plum_lanes.specs.Gathering.{gathered}
 use Rattle.plum_base.specs.Note.{note_of}
 use Rattle.plum_centre.specs.Feeder.{FeederView}
 use Rattle.plum_centre.specs.Turns.{GoesOn}
-use Rattle.plum_centre.proofs.Fronts.{prefix_same, prefix_trans}
+use base.Growing.{prefix_refl, prefix_trans}
 
 pub GoesOn-self : (feeder : FeederView) → GoesOn feeder feeder
 GoesOn-self feeder = record {
@@ -13,7 +13,7 @@ GoesOn-self feeder = record {
   grew = sym (append-nil (gathered feeder.gather));
   noted = λ _. sym (append-nil feeder.notes);
   not_before = λ allowed. allowed;
-  published_more = prefix_same feeder.published feeder.published refl;
+  published_more = prefix_refl feeder.published;
   same_publisher = refl;
 }
 

@@ -1,13 +1,13 @@
 -- The sessions of a centre that was opened.
-use Rattle.std.proofs.Common.{◌≡◌, ◌<◌, List, [], length, map, slice_index_or, ap, ◌∙◌}
+use Rattle.std.proofs.Common.{◌≡◌, ◌<◌, List, [], length, slice_index_or, ap, ◌∙◌}
 use Rattle.std.proofs.Common.{subst}
 use Rattle.std.proofs.lemmas.List.{length-map, get_or-map}
 use Rattle.plum_base.specs.Sites.{areas_of}
-use Rattle.plum_snap.specs.Sessions.{SessionView, new_session}
+use Rattle.plum_snap.specs.Sessions.{SessionView, new_session, new_sessions}
 use Rattle.plum_centre.specs.Centre.{CentreId, AreSessions}
 
 pub AreSessions-new : (id : CentreId) (sessions : List SessionView)
-    → sessions ≡ map (new_session id.publisher id.sites) (areas_of id.sites.targets)
+    → sessions ≡ new_sessions id.publisher id.sites
     → AreSessions id sessions
 AreSessions-new id sessions is =
     let areas = areas_of id.sites.targets in

@@ -12,7 +12,8 @@ use Rattle.plum_centre.specs.declared.fed.Fed.TheVariants.{One, Published, Empty
 use Rattle.plum_centre.specs.Feeder.{FeederView, IsPublishedGathered, IsGatheredFront}
 use Rattle.plum_centre.specs.Turns.{FeedsNothing, Feeds, IsRefused}
 use Rattle.plum_centre.specs.Rounds.{IsDrained, IfEmpty}
-use Rattle.plum_centre.proofs.Fronts.{prefix_same, prefix_drop}
+use Rattle.plum_snap.proofs.Fronts.{prefix_drop}
+use Rattle.plum_centre.proofs.Fronts.{prefix_same}
 
 -- All that was gathered is appended,
 pub IsGatheredFront-all : (appended all : List Entry) (refused : Bool) → appended ≡ all

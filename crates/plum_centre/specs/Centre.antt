@@ -1,11 +1,11 @@
 -- A centre: its lanes, its feeder and its sessions (the project's own).
-use Rattle.std.specs.Prelude.{◌≡◌, ℕ, ◌<◌, List, [], length, map, slice_index_or}
+use Rattle.std.specs.Prelude.{◌≡◌, ℕ, ◌<◌, List, [], length, slice_index_or}
 use Rattle.plum_base.specs.declared.setup.Setup.{Setup}
 use Rattle.plum_base.specs.Sites.{SitesView, areas_of}
 use Rattle.plum_lanes.specs.Opening.{Opening, basis_of}
 use Rattle.plum_lanes.specs.Rounds.{AreWhole, AreNew}
 use Rattle.plum_snap.specs.Fronts.{PublisherId}
-use Rattle.plum_snap.specs.Sessions.{SessionView, new_session}
+use Rattle.plum_snap.specs.Sessions.{SessionView, new_sessions}
 use Rattle.plum_centre.specs.declared.centre.Centre.{Centre}
 use Rattle.plum_centre.specs.Feeder.{new_feeder}
 
@@ -45,5 +45,4 @@ pub record IsNew (id : CentreId) (centre : Centre) : Type 0 where
   pub whole : IsWhole id centre
   pub lanes_new : AreNew id.opening centre.lanes.items centre.feeder.gather
   pub feeder_new : centre.feeder ≡ new_feeder centre.feeder.gather id.publisher
-  pub sessions_new : centre.sessions.items
-      ≡ map (new_session id.publisher id.sites) (areas_of id.sites.targets)
+  pub sessions_new : centre.sessions.items ≡ new_sessions id.publisher id.sites

@@ -1,11 +1,11 @@
 -- The feeder, as its callers know it (the project's own).
-use Rattle.std.specs.Prelude.{◌≡◌, ℕ, Bool, false, List, [], ◌++◌, length, drop}
+use Rattle.std.specs.Prelude.{◌≡◌, ℕ, Bool, false, List, []}
 use mathlib.Core.List.{IsPrefix}
 use Rattle.plum_base.specs.declared.entry.Entry.{Entry}
 use Rattle.plum_base.specs.declared.note.Note.{Note}
 use Rattle.plum_lanes.specs.declared.gatherer.Gather.{Gather}
 use Rattle.plum_lanes.specs.Gathering.{gathered}
-use Rattle.plum_snap.specs.Fronts.{PublisherId}
+use Rattle.plum_snap.specs.Fronts.{PublisherId, Extends}
 
 -- so many pending entries are published, whether or not the queue is empty
 abbrev pub BATCH : ℕ
@@ -40,8 +40,7 @@ pub record IsPublishedGathered (feeder : FeederView) : Type 0 where
   pub front_of_gathered : IsPrefix feeder.appended (gathered feeder.gather)
   pub all : feeder.refused ≡ false → feeder.appended ≡ gathered feeder.gather
 
--- The first list is a front of the second: all of it, unless memory was refused. (The front is said
--- in full, so that a type can keep it.)
+-- The first list is a front of the second: all of it, unless memory was refused.
 pub record IsGatheredFront (appended all : List Entry) (refused : Bool) : Type 0 where
-  pub front : all ≡ appended ++ drop (length appended) all
+  pub front : Extends appended all
   pub whole : refused ≡ false → appended ≡ all

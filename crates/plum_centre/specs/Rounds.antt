@@ -4,7 +4,7 @@ use Rattle.plum_lanes.specs.declared.lanes.Lane.{Lane}
 use Rattle.plum_lanes.specs.Gathering.{gathered, AreSettled, HoldsAllSent, AreGathered}
 use Rattle.plum_lanes.specs.Opening.{Opening}
 use Rattle.plum_lanes.specs.Rounds.{AreWhole, AreAsBefore, KeepTaken}
-use Rattle.plum_snap.specs.Fronts.{ReceiptView}
+use Rattle.plum_snap.specs.Fronts.{ReceiptView, receipt_of}
 use Rattle.plum_centre.specs.declared.fed.Fed.{Fed}
 use Rattle.plum_centre.specs.declared.fed.Fed.TheVariants.{One, Published, Empty}
 use Rattle.plum_centre.specs.Feeder.{FeederView}
@@ -42,8 +42,5 @@ pub record IsRoundClosed (lanes : List Lane) (feeder : FeederView) (receipt : Re
   pub settled : AreSettled lanes feeder.gather
   pub appended_all : feeder.appended ≡ gathered feeder.gather
   pub published_all : feeder.published ≡ gathered feeder.gather
-  pub receipt_is : receipt ≡ record {
-    publisher = feeder.publisher;
-    entries = gathered feeder.gather;
-  }
+  pub receipt_is : receipt ≡ receipt_of feeder.publisher (gathered feeder.gather)
   pub allowed : feeder.refused ≡ false

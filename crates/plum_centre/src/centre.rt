@@ -1,7 +1,7 @@
 //! A centre, and how it is opened.
 
-ghost use Rattle.std.specs.Prelude.{◌≡◌, IfOk, MatchResult};
-ghost use Rattle.plum_snap.specs.Refused.{IsRefused};
+ghost use Rattle.std.specs.Prelude.{IfOk};
+ghost use Rattle.plum_snap.specs.Refused.{CountsRefused};
 
 use crate::feeder::Feeder;
 use plum_base::{Notes, Setup, Sites};
@@ -34,8 +34,7 @@ impl Centre {
     ) -> Result<Centre, OpenFault>
         ensures new { IfOk result (λ centre. (id : CentreId) × IsOf setup.now sites.now id
             × IsNew id centre) }
-        ensures place { MatchResult result (λ _. doors.new ≡ doors.old)
-            (IsRefused doors.old doors.new) }
+        ensures place { CountsRefused result doors.old doors.new }
     {
         let Ok((lanes, gather)) = open_lanes(alloc, sites, setup) else {
             return Err(OpenFault::NoMemory);

@@ -1,6 +1,6 @@
 //! The feeder: it gathers what the lanes sent, notes it, and publishes it.
 
-ghost use Rattle.std.specs.Prelude.{◌≡◌, ◌∷◌, ◌++◌, ◌<◌, ◌^◌, ◌⊎◌, [], true, false, length};
+ghost use Rattle.std.specs.Prelude.{◌≡◌, ◌∷◌, ◌++◌, ◌<◌, ◌⊎◌, [], true, false, length};
 ghost use Rattle.std.specs.Prelude.{IsErr, OnOk, OnErr, MatchResult};
 ghost use mathlib.Core.List.{IsPrefix};
 ghost use Rattle.plum_lanes.specs.Gathering.{gathered, settled_of, IsGather};
@@ -8,6 +8,7 @@ ghost use Rattle.plum_lanes.specs.Gathering.{AreSettled, HoldsAllSent, AreGather
 ghost use Rattle.plum_lanes.specs.Opening.{Opening};
 ghost use Rattle.plum_lanes.specs.Rounds.{AreWhole, IsClosed};
 ghost use Rattle.plum_base.specs.Note.{note_of};
+ghost use Rattle.plum_snap.specs.Fronts.{MOST_ENTRIES, receipt_of};
 ghost use Rattle.plum_centre.specs.Feeder.{new_feeder, IsPublishedGathered};
 ghost use Rattle.plum_centre.specs.Turns.{Feeds, IsRefused, GoesOn};
 ghost use Rattle.plum_centre.specs.Rounds.{StayWhole};
@@ -56,7 +57,7 @@ impl Model for Feeder {
 
 /// An entry becomes pending, and is noted.
 fn add(publisher: &mut Publisher, notes: &mut Notes, entry: Entry) -> Result<(), NoMemory>
-    requires room { length publisher.old.appended < 2 ^ 33 }
+    requires room { length publisher.old.appended < MOST_ENTRIES }
     ensures ok { OnOk result ((publisher.new.appended ≡ publisher.old.appended ++ entry ∷ [])
         × (notes.new ≡ notes.old ++ note_of entry ∷ [])) }
     ensures appended { (publisher.new.appended ≡ publisher.old.appended)
@@ -94,7 +95,7 @@ impl Feeder {
     /// After a refusal each later turn is refused, and what is published stays.
     pub fn turn<R: Wait>(&mut self, rt: &R) -> Result<Fed, NoMemory>
         requires gather { (opening : Opening) × IsGather opening self.old.gather }
-        requires few { length (gathered self.old.gather) < 2 ^ 33 }
+        requires few { length (gathered self.old.gather) < MOST_ENTRIES }
         ensures feeds { MatchResult result (λ fed. Feeds self.old fed self.new)
             (λ _. IsRefused self.old self.new) }
         ensures gather { (opening : Opening) → IsGather opening self.old.gather
@@ -144,10 +145,7 @@ impl Feeder {
 
     /// A receipt of what is published.
     pub fn receipt(&mut self) -> Receipt
-        ensures receipt { result ≡ record {
-          publisher = self.old.publisher;
-          entries = self.old.published;
-        } }
+        ensures receipt { result ≡ receipt_of self.old.publisher self.old.published }
         ensures same { self.new ≡ self.old }
         ensures published_gathered { IsPublishedGathered self.old }
     {
@@ -156,12 +154,10 @@ impl Feeder {
         self.publisher.receipt()
     }
 
-    /// A session has seen no more than is published: a front of it, or all.
+    /// A session has seen no more than is published: a front of it.
     pub fn shows_what_was_seen(&mut self, session: &Session)
         requires { session.now.publisher ≡ self.old.publisher }
         ensures front { IsPrefix session.now.seen self.old.published }
-        ensures all { IsPrefix self.old.published session.now.seen
-            → session.now.seen ≡ self.old.published }
         ensures same { self.new ≡ self.old }
     {
         self.publisher.shows_what_was_seen(session);

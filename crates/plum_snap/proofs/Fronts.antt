@@ -1,18 +1,9 @@
 -- Beginnings of one list.
 use Rattle.std.proofs.Common.{◌≡◌, ◌≤◌, ◌⊎◌, List, [], ◌∷◌, ◌++◌, length, drop, refl, ap, sym}
-use Rattle.std.proofs.Common.{◌∙◌, arith, append_assoc, length-append, inl, inr}
+use Rattle.std.proofs.Common.{◌∙◌, arith, length-append, inl, inr}
 use Rattle.std.proofs.lemmas.Bool.{cases_lt}
 use mathlib.Core.List.{IsPrefix}
-
--- Each list begins with itself.
-pub prefix_self : {A : Type 0} (xs : List A) → IsPrefix xs xs
-prefix_self [] = ([], refl)
-prefix_self (x ∷ xs) = let r = prefix_self xs in (r.0, ap (λ ys. x ∷ ys) r.1)
-
-pub prefix_trans : {A : Type 0} (xs ys zs : List A) → IsPrefix xs ys → IsPrefix ys zs
-    → IsPrefix xs zs
-prefix_trans xs ys zs p q =
-    (p.0 ++ q.0, sym (append_assoc xs p.0 q.0) ∙ (ap (λ w. w ++ q.0) p.1 ∙ q.1))
+use base.Growing.{prefix_refl}
 
 -- Of two beginnings of one list the shorter begins the longer.
 pub prefix_shorter : {A : Type 0} (xs ys zs : List A) → IsPrefix xs zs → IsPrefix ys zs
@@ -49,7 +40,7 @@ pub prefix_of_longer : {A : Type 0} (xs ys : List A) → IsPrefix xs ys ⊎ IsPr
     → length xs ≤ length ys → IsPrefix xs ys
 prefix_of_longer xs ys (inl p) le = p
 prefix_of_longer xs ys (inr p) le =
-    prefix_shorter xs ys xs (prefix_self xs) p le
+    prefix_shorter xs ys xs (prefix_refl xs) p le
 
 -- the rest of a list after a beginning of it
 pub prefix_drop : {A : Type 0} (xs ys : List A) → IsPrefix xs ys → ys ≡ xs ++ drop (length xs) ys

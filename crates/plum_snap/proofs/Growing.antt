@@ -6,7 +6,8 @@ use Rattle.plum_board.specs.Board.{StandsFor, StandsForOneMore, board_after}
 use Rattle.plum_snap.specs.declared.snapshot.Snapshot.{Snapshot}
 use Rattle.plum_snap.specs.declared.snapshot.Addition.{Addition}
 use Rattle.plum_snap.specs.Snapshots.{Grows, snapshot_after}
-use Rattle.plum_snap.proofs.Fronts.{prefix_trans, prefix_drop}
+use base.Growing.{prefix_trans}
+use Rattle.plum_snap.proofs.Fronts.{prefix_drop}
 
 pub grows_more : (x y : Snapshot) (a : Addition) → StandsForOneMore → Grows x y
     → a.front ≡ record y.front { entries = y.front.entries ++ a.entry ∷ [] }

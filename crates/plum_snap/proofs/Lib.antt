@@ -1,5 +1,5 @@
 mod Adding
-mod Fronts
+pub mod Fronts
 mod Moves
 mod Growing
 mod Filling

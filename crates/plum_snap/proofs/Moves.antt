@@ -9,7 +9,8 @@ use Rattle.plum_snap.specs.declared.snapshot.Snapshot.{Snapshot}
 use Rattle.plum_snap.specs.declared.rule.View.{View}
 use Rattle.plum_snap.specs.Snapshots.{Grows}
 use Rattle.plum_snap.specs.Rule.{saw, nobody, Fits, Holds, Sees}
-use Rattle.plum_snap.proofs.Fronts.{prefix_self, prefix_trans, prefix_drop}
+use base.Growing.{prefix_refl, prefix_trans}
+use Rattle.plum_snap.proofs.Fronts.{prefix_drop}
 
 -- what holds of each end, with one end changed
 all_set : (F : View → Type 0) (ends : List View) (n : ℕ) (w : View) → F w
@@ -36,7 +37,7 @@ later_fits x y u g f = record {
 
 saw_fits : (y : Snapshot) → Fits y (saw y)
 saw_fits y = record {
-  front = prefix_self y.front.entries;
+  front = prefix_refl y.front.entries;
   list = λ _. refl;
   sites = λ _. refl;
 }
@@ -68,7 +69,7 @@ sees n v x ends h at =
       right = h.right;
       sites = refl;
       list = refl;
-      longer = prefix_drop x.front.entries x.front.entries (prefix_self x.front.entries);
+      longer = prefix_drop x.front.entries x.front.entries (prefix_refl x.front.entries);
     } in
     grows n v x x same ends h at
 

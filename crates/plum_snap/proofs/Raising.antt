@@ -13,7 +13,8 @@ use Rattle.plum_snap.specs.Limits.{limit_of, key_of, mark_of, AreInTurn, IsLimit
 use Rattle.plum_snap.specs.Limits.{Begins}
 use Rattle.plum_snap.specs.Limits.{Raises, Looks}
 use Rattle.plum_snap.proofs.Cells.{cell_more, cell_set, cell_other, home_set}
-use Rattle.plum_snap.proofs.Fronts.{prefix_trans, prefix_whole, prefix_length}
+use base.Growing.{prefix_trans}
+use Rattle.plum_snap.proofs.Fronts.{prefix_whole, prefix_length}
 use Rattle.plum_snap.proofs.Marking.{limit_push, turns_stay, turns_push, none_yet, are_all}
 
 -- as the rule has it: clients see nothing of the marks, and trade nothing

@@ -1,7 +1,11 @@
--- Fronts of a publisher's one list.
-use Rattle.std.specs.Prelude.{List}
+-- Fronts of a publisher's one list (the project's own).
+use Rattle.std.specs.Prelude.{◌≡◌, ℕ, ◌^◌, List, ◌++◌, length, drop}
 use Rattle.logbook.specs.Pages.{Book}
 use Rattle.plum_base.specs.declared.entry.Entry.{Entry}
+
+-- the most entries of a list
+abbrev pub MOST_ENTRIES : ℕ
+MOST_ENTRIES = 2 ^ 33
 
 -- Which publisher it is: its list, and the limit up to which the list is published. All fronts
 -- with one of these are of one list.
@@ -18,3 +22,12 @@ pub record FrontView : Type 0 where
 pub record ReceiptView : Type 0 where
   pub publisher : PublisherId
   pub entries : List Entry
+
+-- the receipt of a front that this publisher has published
+abbrev pub receipt_of : PublisherId → List Entry → ReceiptView
+receipt_of publisher published = record { publisher = publisher; entries = published }
+
+-- The later list is the earlier with some entries more. (It is said in full, so that a type can
+-- keep it.)
+abbrev pub Extends : List Entry → List Entry → Type 0
+Extends earlier later = later ≡ earlier ++ drop (length earlier) later

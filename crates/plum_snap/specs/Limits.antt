@@ -1,19 +1,17 @@
 -- Up to where a publisher's list is published, and how that goes on.
-use Rattle.std.specs.Prelude.{◌≡◌, ◌<◌, ◌≤◌, ℕ, true, List, [], ◌∷◌, ◌++◌, length}
+use Rattle.std.specs.Prelude.{◌≡◌, ◌<◌, ◌≤◌, ℕ, true, List, [], ◌∷◌, ◌++◌, length, None}
+use Rattle.std.specs.List.{last_or}
+use Rattle.core.specs.Option.{option_map_or}
 use Rattle.logbook.specs.Pages.{Cell, cell, Step, View, Book, Named, may_make}
 use Rattle.plum_snap.specs.declared.limit.Mark.{Mark}
 
 -- the limit after these marks: fronts that are shorter are published. At first none is.
 abbrev pub limit_of : List Mark → ℕ
-limit_of [] = 0
-limit_of (m ∷ []) = m.limit
-limit_of (m ∷ n ∷ marks) = limit_of (n ∷ marks)
+limit_of marks = option_map_or (λ m. m.limit) (last_or None marks) 0
 
 -- the key of the pen that adds the mark after these
 abbrev pub key_of : List Mark → ℕ
-key_of [] = 0
-key_of (m ∷ []) = m.key
-key_of (m ∷ n ∷ marks) = key_of (n ∷ marks)
+key_of marks = option_map_or (λ m. m.key) (last_or None marks) 0
 
 -- The limits are over 0 and never fall, and the pen of each mark but the last is used up.
 abbrev pub AreInTurn : List Cell → List Mark → Type 0

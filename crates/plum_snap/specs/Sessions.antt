@@ -1,9 +1,9 @@
 -- What a session has seen, and what a read leaves.
-use Rattle.std.specs.Prelude.{◌≡◌, ℕ, List, [], length, replicate, None}
+use Rattle.std.specs.Prelude.{◌≡◌, ℕ, List, [], length, map, replicate, None}
 use mathlib.Core.List.{IsPrefix}
 use Rattle.plum_base.specs.declared.answers.Reading.{Reading}
 use Rattle.plum_base.specs.declared.entry.Entry.{Entry}
-use Rattle.plum_base.specs.Sites.{SitesView, targets_of}
+use Rattle.plum_base.specs.Sites.{SitesView, areas_of, targets_of}
 use Rattle.plum_core.specs.Transcript.{IsReadingOver}
 use Rattle.plum_snap.specs.Fronts.{PublisherId}
 use Rattle.plum_snap.specs.Doors.{Rose}
@@ -35,6 +35,10 @@ new_session publisher sites area = record {
   last = first_reading sites area;
   shut = 0;
 }
+
+-- one for each area of these sites, in order
+abbrev pub new_sessions : PublisherId → SitesView → List SessionView
+new_sessions publisher sites = map (new_session publisher sites) (areas_of sites.targets)
 
 -- The session has read one front of the list. It begins with all that the session had seen or
 -- learned, and the reading is that front's, for the targets of the area. The session has then seen

@@ -1,8 +1,9 @@
 -- What is published: a board, with the front that it is the board of.
-use Rattle.std.specs.Prelude.{◌≡◌, ◌++◌, length, drop}
+use Rattle.std.specs.Prelude.{◌≡◌}
 use Rattle.plum_board.specs.Board.{StandsFor, board_after}
 use Rattle.plum_snap.specs.declared.snapshot.Snapshot.{Snapshot}
 use Rattle.plum_snap.specs.declared.snapshot.Addition.{Addition}
+use Rattle.plum_snap.specs.Fronts.{Extends}
 
 -- The board is that of the front.
 abbrev pub IsRight : Snapshot → Type 0
@@ -15,11 +16,9 @@ snapshot_after shown addition = record {
   front = addition.front;
 }
 
--- The later one is the earlier with some entries more. (The list is said in full, so that a type
--- can keep it.)
+-- The later one is the earlier with some entries more.
 pub record Grows (earlier later : Snapshot) : Type 0 where
   pub right : IsRight later
   pub sites : later.board.sites ≡ earlier.board.sites
   pub list : later.front.list ≡ earlier.front.list
-  pub longer : later.front.entries
-      ≡ earlier.front.entries ++ drop (length earlier.front.entries) later.front.entries
+  pub longer : Extends earlier.front.entries later.front.entries

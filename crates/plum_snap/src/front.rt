@@ -1,7 +1,8 @@
 //! Fronts of the one list of a publisher, published or not.
 
-ghost use Rattle.std.specs.Prelude.{◌≡◌, ◌≤◌, ◌^◌, ◌⊎◌, length};
+ghost use Rattle.std.specs.Prelude.{◌≡◌, ◌≤◌, ◌⊎◌, length};
 ghost use mathlib.Core.List.{IsPrefix};
+ghost use Rattle.plum_snap.specs.Fronts.{MOST_ENTRIES};
 
 use crate::history::Reached;
 use std::marker::Model;
@@ -15,21 +16,21 @@ pub struct Front {
 }
 
 impl Model for Front {
-    ghost use Rattle.std.specs.Prelude.{◌≡◌, ◌≤◌, ◌^◌, length};
-    ghost use Rattle.plum_snap.specs.Fronts.{FrontView};
+    ghost use Rattle.std.specs.Prelude.{◌≡◌, ◌≤◌, length};
+    ghost use Rattle.plum_snap.specs.Fronts.{FrontView, MOST_ENTRIES};
 
     ghost Value = { FrontView };
 
     ghost view = { λ f. record { list = f.reached.book; entries = f.reached.log } };
 
-    ghost invariant = { λ f. (f.count ≡ length f.reached.log) × (f.count ≤ 2 ^ 33) };
+    ghost invariant = { λ f. (f.count ≡ length f.reached.log) × (f.count ≤ MOST_ENTRIES) };
 }
 
 impl Front {
     /// How many entries it has.
     pub(crate) fn count(&self) -> u64
         ensures count { result ≡ length self.now.entries }
-        ensures few { result ≤ 2 ^ 33 }
+        ensures few { result ≤ MOST_ENTRIES }
     {
         self.count
     }

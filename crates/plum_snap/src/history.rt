@@ -3,7 +3,8 @@
 //! It stands in proofs alone. What is shared of it is one word, its length; a token of no bytes
 //! says of a beginning that it was reached.
 
-ghost use Rattle.std.specs.Prelude.{◌≡◌, ◌^◌, ◌<◌, [], ◌∷◌, ◌++◌, length, IfSome};
+ghost use Rattle.std.specs.Prelude.{◌≡◌, ◌<◌, [], ◌∷◌, ◌++◌, length, IfSome};
+ghost use Rattle.plum_snap.specs.Fronts.{MOST_ENTRIES};
 ghost use Rattle.plum_snap.specs.History.{head_of};
 
 use crate::front::Front;
@@ -77,7 +78,7 @@ pub fn begin() -> (Head, Front)
 /// one publisher alone extends it.
 pub fn extend(head: &Head, front: &Front, entry: &Entry) -> Option<Front>
     requires head { head.now ≡ head_of front.now.list }
-    requires room { length front.now.entries < 2 ^ 33 }
+    requires room { length front.now.entries < MOST_ENTRIES }
     ensures { IfSome result (λ longer. longer ≡ record front.now {
       entries = front.now.entries ++ entry.now ∷ [];
     }) }

@@ -1,13 +1,12 @@
 //! Opening: a publisher and its sessions, of one list.
 
-ghost use Rattle.std.specs.Prelude.{◌≡◌, [], map, drop, true, IfOk, MatchResult};
+ghost use Rattle.std.specs.Prelude.{◌≡◌, [], drop, true, IfOk};
 ghost use Rattle.left_right.specs.Sides as sides;
-ghost use Rattle.plum_base.specs.Sites.{areas_of};
 ghost use Rattle.plum_board.specs.Board.{new_board};
 ghost use Rattle.plum_snap.specs.Publisher.{new_publisher};
-ghost use Rattle.plum_snap.specs.Refused.{IsRefused};
+ghost use Rattle.plum_snap.specs.Refused.{CountsRefused};
 ghost use Rattle.plum_snap.specs.Rule.{IsAsBefore, saw};
-ghost use Rattle.plum_snap.specs.Sessions.{new_session};
+ghost use Rattle.plum_snap.specs.Sessions.{new_session, new_sessions};
 ghost use Rattle.plum_snap.specs.Snapshots.{IsRight};
 
 use crate::doors::Doors;
@@ -83,8 +82,7 @@ fn session(
     requires sites { (sides.view writer.old.desk.place).seen.board.sites ≡ sites.now }
     ensures session { IfOk result (λ session.
         session ≡ new_session front.now.publisher sites.now area) }
-    ensures place { MatchResult result (λ _. doors.new ≡ doors.old)
-        (IsRefused doors.old doors.new) }
+    ensures place { CountsRefused result doors.old doors.new }
     ensures knows { sides.view writer.new.desk.place ≡ sides.view writer.old.desk.place }
     ensures writer { IsAsBefore writer.old writer.new }
 {
@@ -113,10 +111,9 @@ fn sessions(
     requires one { (sides.view writer.old.desk.place).seen.front.list
         ≡ front.now.publisher.list }
     requires sites { (sides.view writer.old.desk.place).seen.board.sites ≡ sites.now }
-    ensures sessions { IfOk result (λ v. v.items
-        ≡ map (new_session front.now.publisher sites.now) (areas_of sites.now.targets)) }
-    ensures place { MatchResult result (λ _. doors.new ≡ doors.old)
-        (IsRefused doors.old doors.new) }
+    ensures sessions { IfOk result (λ v.
+        v.items ≡ new_sessions front.now.publisher sites.now) }
+    ensures place { CountsRefused result doors.old doors.new }
     ensures writer { IsAsBefore writer.old writer.new }
 {
     let mut sessions = Vec::new(alloc);
@@ -136,10 +133,9 @@ pub fn open<R: Wait>(
     doors: &mut Doors,
 ) -> Result<(Publisher, Vec<Session>), OpenFault>
     ensures publisher { IfOk result (λ opened. opened.0 ≡ new_publisher opened.0.publisher) }
-    ensures sessions { IfOk result (λ opened. opened.1.items
-        ≡ map (new_session opened.0.publisher sites.now) (areas_of sites.now.targets)) }
-    ensures place { MatchResult result (λ _. doors.new ≡ doors.old)
-        (IsRefused doors.old doors.new) }
+    ensures sessions { IfOk result (λ opened.
+        opened.1.items ≡ new_sessions opened.0.publisher sites.now) }
+    ensures place { CountsRefused result doors.old doors.new }
 {
     let (head, front) = begin();
     let limit = Limit::begin(alloc).map_err(|_| OpenFault::NoMemory)?;

@@ -1,8 +1,9 @@
 //! The publisher: it extends the list, and shows fronts of it.
 
-ghost use Rattle.std.specs.Prelude.{◌≡◌, ◌+◌, ◌^◌, ◌<◌, ◌++◌, ◌∷◌, [], length, drop, true, false};
+ghost use Rattle.std.specs.Prelude.{◌≡◌, ◌+◌, ◌<◌, ◌++◌, ◌∷◌, [], length, drop, true, false};
 ghost use Rattle.std.specs.Prelude.{IsErr, OnOk, OnErr};
 ghost use mathlib.Core.List.{IsPrefix};
+ghost use Rattle.plum_snap.specs.Fronts.{MOST_ENTRIES, receipt_of};
 ghost use Rattle.plum_snap.specs.History.{head_of};
 ghost use Rattle.plum_snap.specs.Snapshots.{IsRight};
 
@@ -83,7 +84,7 @@ impl Publisher {
     /// Appends an entry. After a refusal each later append is refused; what was appended before can
     /// still be published.
     pub fn append(&mut self, entry: Entry) -> Result<(), NoMemory>
-        requires room { length self.old.appended < 2 ^ 33 }
+        requires room { length self.old.appended < MOST_ENTRIES }
         ensures ok { OnOk result (self.new ≡ record self.old {
           appended = self.old.appended ++ entry ∷ [];
         }) }
@@ -126,10 +127,7 @@ impl Publisher {
 
     /// A receipt of what is published.
     pub fn receipt(&mut self) -> Receipt
-        ensures receipt { result ≡ record {
-          publisher = self.old.publisher;
-          entries = self.old.published;
-        } }
+        ensures receipt { result ≡ receipt_of self.old.publisher self.old.published }
         ensures same { self.new ≡ self.old }
     {
         Receipt::new(self.writer.published().front.again(), self.limit.marks())
@@ -139,8 +137,6 @@ impl Publisher {
     pub fn shows_receipt(&mut self, receipt: &Receipt)
         requires { receipt.now.publisher ≡ self.old.publisher }
         ensures front { IsPrefix receipt.now.entries self.old.published }
-        ensures all { IsPrefix self.old.published receipt.now.entries
-            → receipt.now.entries ≡ self.old.published }
         ensures same { self.new ≡ self.old }
     {
         self.limit.covers(receipt.marks());
@@ -149,12 +145,10 @@ impl Publisher {
             .are_of_one_list(&self.writer.published().front);
     }
 
-    /// A session has seen no more than is published: a front of it, or all.
+    /// A session has seen no more than is published: a front of it.
     pub fn shows_what_was_seen(&mut self, session: &Session)
         requires { session.now.publisher ≡ self.old.publisher }
         ensures front { IsPrefix session.now.seen self.old.published }
-        ensures all { IsPrefix self.old.published session.now.seen
-            → session.now.seen ≡ self.old.published }
         ensures same { self.new ≡ self.old }
     {
         self.shows_receipt(session.seen());

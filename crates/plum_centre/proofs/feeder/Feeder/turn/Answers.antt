@@ -2,7 +2,8 @@ use Rattle.std.proofs.Common.{◌≤◌, ◌+◌, [], ◌∷◌, ◌++◌, lengt
 use Rattle.std.proofs.Common.{arith, inr}
 use Rattle.plum_snap.specs.Publisher.{PublisherView}
 use Rattle.plum_centre.specs.Feeder.{FeederView}
-use Rattle.plum_centre.proofs.Fronts.{prefix_same, prefix_whole, prefix_added, prefix_grown}
+use Rattle.plum_snap.proofs.Fronts.{prefix_whole}
+use Rattle.plum_centre.proofs.Fronts.{prefix_same, prefix_added, prefix_grown}
 use Rattle.plum_centre.proofs.Turning.{IsGatheredFront-all, IsGatheredFront-refused}
 use Rattle.plum_centre.proofs.Turning.{IsPublishedGathered-front}
 use Rattle.plum_centre.proofs.feeder.Feeder.turn.Goals as goal
