@@ -1,40 +1,24 @@
 -- Lanes and their feeder stay whole, step by step.
 use Rattle.std.proofs.Common.{◌≡◌, ℕ, suc, ◌<◌, List, [], ◌∷◌, length, slice_index_or, refl}
-use Rattle.std.proofs.Common.{sym, ap, subst, arith}
+use Rattle.std.proofs.Common.{ap, arith}
 use Rattle.std.proofs.lemmas.List.Sums.{sum_by-cons}
 use Rattle.plum_lanes.specs.declared.lanes.Lane.{Lane}
 use Rattle.plum_lanes.specs.Gathering.{IsGather}
 use Rattle.plum_lanes.specs.Lanes.{sent, all_sent}
 use Rattle.plum_lanes.specs.Opening.{Opening}
 use Rattle.plum_lanes.specs.Rounds.{AreAsBefore}
-use Rattle.plum_lanes.proofs.Frames.{AreAsBefore-join}
+use Rattle.plum_lanes.proofs.Frames.{KeepWhole-gather, KeepWhole-join}
 use Rattle.plum_centre.specs.Feeder.{FeederView}
 use Rattle.plum_centre.specs.Turns.{GoesOn}
 use Rattle.plum_centre.specs.Rounds.{StayWhole}
 use Rattle.plum_centre.proofs.Going.{GoesOn-self, GoesOn-then}
-
-AreAsBefore-self : (lanes : List Lane) → AreAsBefore lanes lanes
-AreAsBefore-self lanes = record {
-  long = refl;
-  each = λ i d less. record {
-    sent_is = refl;
-    waiting_is = refl;
-    kept_is = refl;
-    repeats_is = refl;
-  };
-}
 
 -- The feeder alone went on.
 pub StayWhole-turn : (lanes : List Lane) (before after : FeederView)
     → ((opening : Opening) → IsGather opening before.gather → IsGather opening after.gather)
     → GoesOn before after → StayWhole lanes before lanes after
 StayWhole-turn lanes before after gather goes_on = record {
-  whole = λ opening whole. record {
-    lanes_are = whole.lanes_are;
-    gather_is = gather opening whole.gather_is;
-  };
-  taken = λ opening whole i d taken less has. has;
-  same = AreAsBefore-self lanes;
+  keep = KeepWhole-gather lanes before.gather after.gather gather;
   goes_on = goes_on;
 }
 
@@ -46,12 +30,7 @@ pub StayWhole-then : (ls : List Lane) (a : FeederView) (ms : List Lane) (b : Fee
     (ns : List Lane) (c : FeederView) → StayWhole ls a ms b → StayWhole ms b ns c
     → StayWhole ls a ns c
 StayWhole-then ls a ms b ns c first then = record {
-  whole = λ opening whole. then.whole opening (first.whole opening whole);
-  taken = λ opening whole i d taken less has.
-      then.taken opening (first.whole opening whole) i d taken
-      (subst (λ n. i < n) (sym first.same.long) less)
-      (first.taken opening whole i d taken less has);
-  same = AreAsBefore-join ls ms ns first.same then.same;
+  keep = KeepWhole-join ls a.gather ms b.gather ns c.gather first.keep then.keep;
   goes_on = GoesOn-then a b c first.goes_on then.goes_on;
 }
 

@@ -2,23 +2,17 @@
 use Rattle.std.specs.Prelude.{◌≡◌, false, List, ⊤}
 use Rattle.plum_lanes.specs.declared.lanes.Lane.{Lane}
 use Rattle.plum_lanes.specs.Gathering.{gathered, AreSettled, HoldsAllSent, AreGathered}
-use Rattle.plum_lanes.specs.Opening.{Opening}
-use Rattle.plum_lanes.specs.Rounds.{AreWhole, AreAsBefore, KeepTaken}
+use Rattle.plum_lanes.specs.Rounds.{KeepWhole}
 use Rattle.plum_snap.specs.Fronts.{ReceiptView, receipt_of}
 use Rattle.plum_centre.specs.declared.fed.Fed.{Fed}
 use Rattle.plum_centre.specs.declared.fed.Fed.TheVariants.{One, Published, Empty}
 use Rattle.plum_centre.specs.Feeder.{FeederView}
 use Rattle.plum_centre.specs.Turns.{GoesOn}
 
--- These stay all the lanes of the feeder's queue. They took and sent what they did, while the
--- feeder went on.
+-- These stay all the lanes of the feeder's queue, while the feeder went on.
 pub record StayWhole (lanes : List Lane) (before : FeederView) (lanes_then : List Lane)
     (after : FeederView) : Type 0 where
-  pub whole : (opening : Opening) → AreWhole opening lanes before.gather
-      → AreWhole opening lanes_then after.gather
-  pub taken : (opening : Opening) → AreWhole opening lanes before.gather
-      → KeepTaken opening lanes lanes_then
-  pub same : AreAsBefore lanes lanes_then
+  pub keep : KeepWhole lanes before.gather lanes_then after.gather
   pub goes_on : GoesOn before after
 
 -- All that these lanes sent is gathered and published, and no turn was refused memory.

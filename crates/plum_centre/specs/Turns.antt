@@ -2,9 +2,7 @@
 use Rattle.std.specs.Prelude.{◌≡◌, ℕ, ◌+◌, ◌≤◌, ◌⊎◌, true, false, List, [], ◌∷◌, ◌++◌, length, map}
 use mathlib.Core.List.{IsPrefix}
 use Rattle.plum_base.specs.declared.entry.Entry.{Entry}
-use Rattle.plum_lanes.specs.declared.lanes.Lane.{Lane}
-use Rattle.plum_lanes.specs.Gathering.{gathered, IsGather, AreSettled, HoldsAllSent}
-use Rattle.plum_lanes.specs.Opening.{Opening}
+use Rattle.plum_lanes.specs.Gathering.{gathered, FoundEmpty}
 use Rattle.plum_centre.specs.declared.fed.Fed.{Fed}
 use Rattle.plum_centre.specs.declared.fed.Fed.TheVariants.{One, Published, Empty}
 use Rattle.plum_base.specs.Note.{note_of}
@@ -13,13 +11,6 @@ use Rattle.plum_centre.specs.Feeder.{FeederView, BATCH}
 -- At least so many entries are pending.
 abbrev pub ArePending : ℕ → FeederView → Type 0
 ArePending count feeder = length feeder.published + count ≤ length feeder.appended
-
--- The queue was empty at a moment of the turn: of what any lanes had sent when a round was closed
--- last, nothing is missing.
-abbrev pub FoundEmpty : FeederView → FeederView → Type 0
-FoundEmpty before after =
-    (opening : Opening) (lanes : List Lane) → IsGather opening before.gather
-    → AreSettled lanes before.gather → HoldsAllSent lanes after.gather
 
 -- It gathered an entry, which is pending and noted then.
 pub record FeedsOne (before after : FeederView) : Type 0 where
@@ -34,14 +25,15 @@ pub record FeedsOne (before after : FeederView) : Type 0 where
 -- It published all that was pending: because that was a whole batch, or because something was and
 -- the queue was empty.
 pub record FeedsBoard (before after : FeederView) : Type 0 where
-  pub cause : ArePending BATCH before ⊎ (ArePending 1 before × FoundEmpty before after)
+  pub cause : ArePending BATCH before
+      ⊎ (ArePending 1 before × FoundEmpty before.gather after.gather)
   pub kept : gathered after.gather ≡ gathered before.gather
   pub rest : after ≡ record before { gather = after.gather; published = before.appended }
 
 -- The queue was empty, and nothing was pending.
 pub record FeedsNothing (before after : FeederView) : Type 0 where
   pub none_pending : before.published ≡ before.appended
-  pub found : FoundEmpty before after
+  pub found : FoundEmpty before.gather after.gather
   pub kept : gathered after.gather ≡ gathered before.gather
   pub rest : after ≡ record before { gather = after.gather }
 

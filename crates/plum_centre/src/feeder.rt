@@ -4,9 +4,8 @@ ghost use Rattle.std.specs.Prelude.{◌≡◌, ◌∷◌, ◌++◌, ◌<◌, ◌
 ghost use Rattle.std.specs.Prelude.{IsErr, OnOk, OnErr, MatchResult};
 ghost use mathlib.Core.List.{IsPrefix};
 ghost use Rattle.plum_lanes.specs.Gathering.{gathered, settled_of, IsGather};
-ghost use Rattle.plum_lanes.specs.Gathering.{AreSettled, HoldsAllSent, AreGathered};
 ghost use Rattle.plum_lanes.specs.Opening.{Opening};
-ghost use Rattle.plum_lanes.specs.Rounds.{AreWhole, IsClosed};
+ghost use Rattle.plum_lanes.specs.Rounds.{AreWhole, ClosesRound};
 ghost use Rattle.plum_base.specs.Note.{note_of};
 ghost use Rattle.plum_snap.specs.Fronts.{MOST_ENTRIES, receipt_of};
 ghost use Rattle.plum_centre.specs.Feeder.{new_feeder, IsPublishedGathered};
@@ -168,12 +167,7 @@ impl Feeder {
         requires { (opening : Opening) × AreWhole opening lanes.old self.old.gather }
         ensures stay { StayWhole lanes.old self.old lanes.new self.new }
         ensures same { self.new ≡ record self.old { gather = self.new.gather } }
-        ensures gathered { gathered self.new.gather ≡ gathered self.old.gather }
-        ensures settled { AreSettled lanes.new self.new.gather }
-        ensures closed { (opening : Opening) → AreWhole opening lanes.old self.old.gather
-            → IsClosed opening lanes.new self.new.gather }
-        ensures all { HoldsAllSent lanes.old self.old.gather
-            → AreGathered lanes.new self.new.gather }
+        ensures closes { ClosesRound lanes.old self.old.gather lanes.new self.new.gather }
     {
         close_round(lanes, &mut self.gather).unwrap();
     }

@@ -9,12 +9,10 @@ use Rattle.plum_base.specs.declared.entry.Entry.{Entry}
 use Rattle.plum_core.specs.History.{entries_of_lane}
 use Rattle.plum_core.specs.Laws.{EachOnce}
 use Rattle.plum_lanes.specs.declared.gatherer.Gather.{Gather}
-use Rattle.plum_lanes.specs.declared.lanes.Lane.{Lane}
 use Rattle.plum_lanes.specs.declared.rule.Basis.{Basis}
 use Rattle.plum_lanes.specs.declared.rule.View.{View}
 use Rattle.plum_lanes.specs.Rule.{IsValid, Gathers, IsGatheredThen}
-use Rattle.plum_lanes.specs.Opening.{Opening}
-use Rattle.plum_lanes.specs.Gathering.{AreSettled, HoldsAllSent, gathered}
+use Rattle.plum_lanes.specs.Gathering.{gathered, FoundEmpty}
 
 -- what a pop tells: of the view before, of the view after, and of what it took
 abbrev pub Popped : View → View → Option Entry → Type 0
@@ -54,13 +52,12 @@ known_after v w (Some e) may told = (
 )
 
 -- Where it took none, and what the lanes sent is settled, all that they sent is gathered.
-pub all_after : EachOnce → (opening : Opening) (lanes : List Lane) (before after : Gather)
-    (taken : Option Entry) → (view before.pass).basis ≡ Some opening.basis → AreSettled lanes before
-    → Popped (view before.pass) (view after.pass) taken
-    → IfNone taken (HoldsAllSent lanes after)
-all_after once opening lanes before after None known settled told =
+pub all_after : EachOnce → (before after : Gather) (taken : Option Entry)
+    → Popped (view before.pass) (view after.pass) taken → IfNone taken (FoundEmpty before after)
+all_after once before after None told = λ opening lanes is settled.
     let v = view before.pass in
     let then = at_empty v told.1 in
+    let known = is.gather_of.basis_is in
     let valid = valid_after opening.basis v (view after.pass) None known told in
     record {
       each = λ i d within.
@@ -73,4 +70,4 @@ all_after once opening lanes before after None known settled told =
           );
       once = once opening.basis.setup opening.basis.stations (gathered after) valid;
     }
-all_after once opening lanes before after (Some e) known settled told = tt
+all_after once before after (Some e) told = tt

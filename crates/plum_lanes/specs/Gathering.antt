@@ -52,6 +52,13 @@ pub record HoldsAllSent (lanes : List Lane) (gather : Gather) : Type 0 where
       → IsPrefix (sent (slice_index_or lanes i d)) (entries_of_lane i (gathered gather))
   pub once : IsEachOnce (gathered gather)
 
+-- The queue was empty at a moment of the call: of what any lanes had sent when a round was closed
+-- last, nothing is missing.
+abbrev pub FoundEmpty : Gather → Gather → Type 0
+FoundEmpty before after =
+    (opening : Opening) (lanes : List Lane) → IsGather opening before → AreSettled lanes before
+    → HoldsAllSent lanes after
+
 -- What each lane sent is its entries in the gathered list: all of them, and no more.
 abbrev pub AreGathered : List Lane → Gather → Type 0
 AreGathered lanes gather =

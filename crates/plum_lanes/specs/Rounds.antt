@@ -7,7 +7,7 @@ use Rattle.plum_core.specs.Facts.{IsQueueBounded}
 use Rattle.plum_core.specs.History.{entries_of_lane, IsValidHistory}
 use Rattle.plum_lanes.specs.declared.gatherer.Gather.{Gather}
 use Rattle.plum_lanes.specs.declared.lanes.Lane.{Lane}
-use Rattle.plum_lanes.specs.Gathering.{gathered, IsGather, AreSettled}
+use Rattle.plum_lanes.specs.Gathering.{gathered, IsGather, AreSettled, HoldsAllSent, AreGathered}
 use Rattle.plum_lanes.specs.Lanes.{sent, waiting_in, kept_by, repeats_of, AreLanes, HasTaken}
 use Rattle.plum_lanes.specs.Lanes.{HaveTaken, AreFree, all_sent}
 use Rattle.plum_lanes.specs.Opening.{Opening}
@@ -46,6 +46,15 @@ KeepTaken opening before after =
     → HasTaken opening i taken (slice_index_or before i d)
     → HasTaken opening i taken (slice_index_or after i d)
 
+-- These stay all the lanes of their opening, with its gatherer. They took and sent what they did.
+pub record KeepWhole (lanes : List Lane) (before : Gather) (lanes_then : List Lane)
+    (after : Gather) : Type 0 where
+  pub whole : (opening : Opening) → AreWhole opening lanes before
+      → AreWhole opening lanes_then after
+  pub taken : (opening : Opening) → AreWhole opening lanes before
+      → KeepTaken opening lanes lanes_then
+  pub same : AreAsBefore lanes lanes_then
+
 -- What each lane sent is its entries in the gathered list and then those that are still queued.
 -- Both together are a valid history of as many entries as were sent, and the queue is within its
 -- bound.
@@ -58,3 +67,14 @@ pub record IsClosed (opening : Opening) (lanes : List Lane) (gather : Gather) : 
       → sent (slice_index_or lanes i d)
       ≡ entries_of_lane i (gathered gather) ++ entries_of_lane i queued
   pub counted : length (gathered gather) + length queued ≡ all_sent lanes
+
+-- The round is closed: the lanes and what is gathered stay as they were, and the gatherer knows
+-- what each lane sent. Where all of that is gathered, nothing else is.
+pub record ClosesRound (lanes : List Lane) (before : Gather) (lanes_then : List Lane)
+    (after : Gather) : Type 0 where
+  pub keep : KeepWhole lanes before lanes_then after
+  pub same_gathered : gathered after ≡ gathered before
+  pub settled : AreSettled lanes_then after
+  pub closed : (opening : Opening) → AreWhole opening lanes before
+      → IsClosed opening lanes_then after
+  pub all : HoldsAllSent lanes before → AreGathered lanes_then after

@@ -8,9 +8,8 @@ ghost use Rattle.plum_lanes.specs.declared.lanes.Lane.{Lane};
 ghost use Rattle.plum_lanes.specs.Rule.{settle, settled_at, IsGatheredThen};
 ghost use Rattle.plum_lanes.specs.Opening.{Opening};
 ghost use Rattle.plum_lanes.specs.Lanes.{sent, BelongsTo, IsLane};
-ghost use Rattle.plum_lanes.specs.Gathering.{gathered, settled_of, out_of, IsGatherOf};
-ghost use Rattle.plum_lanes.specs.Gathering.{AreSettled, HoldsAllSent, AreGathered};
-ghost use Rattle.plum_lanes.specs.Rounds.{AreWhole, AreAsBefore, KeepTaken, IsClosed};
+ghost use Rattle.plum_lanes.specs.Gathering.{settled_of, out_of, AreSettled, IsGatherOf};
+ghost use Rattle.plum_lanes.specs.Rounds.{AreWhole, ClosesRound};
 ghost use Rattle.plum_lanes.specs.Passing.{AllBelong, IsSameBut, IsSameGather};
 
 use crate::gatherer::Gather;
@@ -103,17 +102,7 @@ fn reissue_all(lanes: &mut [Lane], gather: &mut Gather)
 pub fn close_round(lanes: &mut [Lane], gather: &mut Gather) -> Result<(), NoMemory>
     requires { (opening : Opening) × AreWhole opening lanes.old gather.old }
     ensures ok { IsOk result }
-    ensures whole { (opening : Opening) → AreWhole opening lanes.old gather.old
-        → AreWhole opening lanes.new gather.new }
-    ensures taken { (opening : Opening) → AreWhole opening lanes.old gather.old
-        → KeepTaken opening lanes.old lanes.new }
-    ensures same { AreAsBefore lanes.old lanes.new }
-    ensures gathered { gathered gather.new ≡ gathered gather.old }
-    ensures settled { AreSettled lanes.new gather.new }
-    ensures closed { (opening : Opening) → AreWhole opening lanes.old gather.old
-        → IsClosed opening lanes.new gather.new }
-    // Where all that was sent is gathered, nothing else is.
-    ensures all { HoldsAllSent lanes.old gather.old → AreGathered lanes.new gather.new }
+    ensures closes { ClosesRound lanes.old gather.old lanes.new gather.new }
 {
     // For the contract: a lane's entries in a front are a front of its entries, and all lanes
     // together have as many as a history.

@@ -1,8 +1,7 @@
 //! The gatherer: it takes the entries that the lanes sent, in the order of the queue.
 
-ghost use Rattle.std.specs.Prelude.{◌≡◌, ◌++◌, List, IfNone};
+ghost use Rattle.std.specs.Prelude.{◌≡◌, ◌++◌, IfNone};
 ghost use Rattle.std.specs.Option.{option_to_list};
-ghost use Rattle.plum_lanes.specs.declared.lanes.Lane.{Lane};
 
 use crate::rule::{Ring, Ticket};
 use crate::steps::pop;
@@ -20,8 +19,7 @@ pub struct Gather {
 
 impl Gather {
     ghost use Rattle.plum_lanes.specs.Opening.{Opening};
-    ghost use Rattle.plum_lanes.specs.Gathering.{IsGather, AreSettled, HoldsAllSent};
-    ghost use Rattle.plum_lanes.specs.Gathering.{gathered, settled_of};
+    ghost use Rattle.plum_lanes.specs.Gathering.{gathered, settled_of, IsGather, FoundEmpty};
 
     /// The first entry of the queue, or None where it was empty. What is gathered stays a valid
     /// history. None tells that nothing is missing of what the lanes had sent when a round was
@@ -32,8 +30,7 @@ impl Gather {
             → IsGather opening self.new }
         ensures gathered { gathered self.new ≡ gathered self.old ++ option_to_list result }
         ensures settled { settled_of self.new ≡ settled_of self.old }
-        ensures all { (opening : Opening) (lanes : List Lane) → IsGather opening self.old
-            → AreSettled lanes self.old → IfNone result (HoldsAllSent lanes self.new) }
+        ensures all { IfNone result (FoundEmpty self.old self.new) }
     {
         // For the contract: a valid history holds each entry once.
         valid_histories_hold_each_once();

@@ -3,7 +3,7 @@ use Rattle.plum_centre.proofs.closing.close.Goals as goal
 
 pub settle-requires : goal.settle-requires
 settle-requires g c =
-    let whole = c.requires.whole in (whole.0, c.drain.ensures.stay.whole whole.0 whole.1)
+    let whole = c.requires.whole in (whole.0, c.drain.ensures.stay.keep.whole whole.0 whole.1)
 
 pub returns-clause-stay : goal.returns-clause-stay
 returns-clause-stay g c =

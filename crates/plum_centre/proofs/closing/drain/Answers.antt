@@ -4,11 +4,11 @@ use Rattle.plum_centre.proofs.closing.drain.Goals as goal
 
 pub turn_of_all-requires-clause-whole : goal.turn_of_all-requires-clause-whole
 turn_of_all-requires-clause-whole g c =
-    let whole = c.requires.whole in (whole.0, c.loop.invariant.whole whole.0 whole.1)
+    let whole = c.requires.whole in (whole.0, c.loop.invariant.keep.whole whole.0 whole.1)
 
 pub turn_of_all-requires-clause-few : goal.turn_of_all-requires-clause-few
 turn_of_all-requires-clause-few g c =
-    let same = all_sent-same _ _ c.loop.invariant.same in omega (arith, same, c.requires.few)
+    let same = all_sent-same _ _ c.loop.invariant.keep.same in omega (arith, same, c.requires.few)
 
 pub loop-preserved : goal.loop-preserved
 loop-preserved g c =

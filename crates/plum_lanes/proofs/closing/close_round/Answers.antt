@@ -1,4 +1,4 @@
-use Rattle.std.proofs.Common.{◌≡◌, ℕ, ◌+◌, ◌++◌, ◌<◌, length, length-append, slice_index_or, sym}
+use Rattle.std.proofs.Common.{◌≡◌, ℕ, ◌++◌, ◌<◌, length, length-append, slice_index_or, sym}
 use Rattle.std.proofs.Common.{ap, ◌∙◌, subst, arith}
 use Rattle.std.specs.Prelude.{sum_by}
 use Rattle.std.specs.List.{range_with_len}
@@ -7,10 +7,13 @@ use Rattle.plum_core.specs.History.{entries_of_lane}
 use Rattle.plum_lanes.specs.declared.lanes.Lane.{Lane}
 use Rattle.plum_lanes.specs.Rule.{IsValid, settled_at}
 use Rattle.plum_lanes.specs.Lanes.{sent}
-use Rattle.plum_lanes.specs.Gathering.{gathered, settled_of}
+use Rattle.plum_lanes.specs.Gathering.{gathered, settled_of, HoldsAllSent, AreGathered}
+use Rattle.plum_lanes.specs.Opening.{Opening}
+use Rattle.plum_lanes.specs.Rounds.{AreWhole, AreAsBefore, KeepTaken, IsClosed}
 use Rattle.plum_lanes.proofs.Closed.{all_belong, IsSameGather-then, IsSameBut-then, IsAsBefore-same}
 use Rattle.plum_lanes.proofs.Closed.{HasTaken-same, settled_is, all_gathered, sum_at}
 use Rattle.plum_lanes.proofs.closing.close_round.Goals as goal
+use Rattle.plum_lanes.proofs.closing.close_round.Goals.{After-reissue_all}
 
 pub look-requires : goal.look-requires
 look-requires c = (
@@ -28,8 +31,11 @@ reissue_all-requires c =
       look.out ∙ recall.out,
     )
 
-pub returns-clause-whole : goal.returns-clause-whole
-returns-clause-whole c = λ opening whole.
+-- They are all the lanes still,
+stay_whole : (c : After-reissue_all) (opening : Opening)
+    → AreWhole opening c.args.lanes.now c.args.gather.now
+    → AreWhole opening c.reissue_all.new.lanes c.reissue_all.new.gather
+stay_whole c opening whole =
     let recall = c.recall_all.ensures in
     let again = c.reissue_all.ensures in
     let is = whole.gather_is in
@@ -51,8 +57,9 @@ returns-clause-whole c = λ opening whole.
       };
     }
 
-pub returns-clause-same : goal.returns-clause-same
-returns-clause-same c =
+-- and sent what they did,
+as_before : (c : After-reissue_all) → AreAsBefore c.args.lanes.now c.reissue_all.new.lanes
+as_before c =
     let recall = c.recall_all.ensures in
     let again = c.reissue_all.ensures in
     record {
@@ -66,19 +73,25 @@ returns-clause-same c =
           ∙ recall.settled i d less);
     }
 
-pub returns-clause-taken : goal.returns-clause-taken
-returns-clause-taken c = λ opening whole i d taken less has.
+-- of the packets that they took.
+keep_taken : (c : After-reissue_all) (opening : Opening)
+    → AreWhole opening c.args.lanes.now c.args.gather.now
+    → KeepTaken opening c.args.lanes.now c.reissue_all.new.lanes
+keep_taken c opening whole i d taken less has =
     let recall = c.recall_all.ensures in
     let again = c.reissue_all.ensures in
     let less' = subst (λ n. i < n) (sym recall.count) less in
     let less'' = subst (λ n. i < n) (sym again.count) less' in
     HasTaken-same opening i taken _ _
     (IsSameBut-then _ _ _ (recall.lanes i d less) (again.same i d less'))
-    ((returns-clause-same c).each i d less).sent_is
-    ((returns-clause-whole c opening whole).lanes_are.each i d less'') has
+    ((as_before c).each i d less).sent_is
+    ((stay_whole c opening whole).lanes_are.each i d less'') has
 
-pub returns-clause-closed : goal.returns-clause-closed
-returns-clause-closed c = λ opening whole.
+-- What each sent is gathered or queued.
+closed : (c : After-reissue_all) (opening : Opening)
+    → AreWhole opening c.args.lanes.now c.args.gather.now
+    → IsClosed opening c.reissue_all.new.lanes c.reissue_all.new.gather
+closed c opening whole =
     let recall = c.recall_all.ensures in
     let look = c.look.ensures in
     let again = c.reissue_all.ensures in
@@ -114,8 +127,10 @@ returns-clause-closed c = λ opening whole.
           ∙ ap (λ m. length (entries_of_lane m (now ++ queued))) (omega arith)));
     }
 
-pub returns-clause-all : goal.returns-clause-all
-returns-clause-all c = λ holds i d less.
+-- Where all of that is gathered, nothing else is.
+all : (c : After-reissue_all) → HoldsAllSent c.args.lanes.now c.args.gather.now
+    → AreGathered c.reissue_all.new.lanes c.reissue_all.new.gather
+all c holds i d less =
     let recall = c.recall_all.ensures in
     let look = c.look.ensures in
     let again = c.reissue_all.ensures in
@@ -125,10 +140,26 @@ returns-clause-all c = λ holds i d less.
     let less'' = subst (λ n. i < n) recall.count less' in
     let is = settled_is c.histories.ensures.lane v look.fact.0 look.fact.1 recall.out i _ _
     (settled_of c.look.new.gather) (again.sent i d less') look.settled all in
-    let sent_is = (returns-clause-same c).each i d less'' in
+    let sent_is = (as_before c).each i d less'' in
     let front = holds.each i d less'' in
     let same = all ∙ recall.gather.gathered in
     all_gathered i _ _ look.fact.0 is (
       front.0,
       ap (λ es. es ++ front.0) sent_is.sent_is ∙ front.1 ∙ ap (entries_of_lane i) (sym same),
     )
+
+pub returns-clause-closes : goal.returns-clause-closes
+returns-clause-closes c =
+    let again = c.reissue_all.ensures in
+    let then = (goal.at.returns-clause-closes c).After-reissue_all in
+    record {
+      keep = record { whole = stay_whole then; taken = keep_taken then; same = as_before then };
+      same_gathered =
+          again.gather.gathered ∙ c.look.ensures.gather.gathered
+          ∙ c.recall_all.ensures.gather.gathered;
+      settled = λ i d less.
+          ap (λ lists. settled_at lists i) again.settled
+          ∙ sym (again.sent i d (subst (λ n. i < n) again.count less));
+      closed = closed then;
+      all = all then;
+    }

@@ -19,13 +19,13 @@ returns-clause-whole g c = λ id whole.
     let stay = c.close.ensures.stay in
     let value : c.as_mut_slice.result.now ≡ start.items = c.as_mut_slice.ensures.value in
     let long : length c.close.new.lanes ≡ length start.items =
-    stay.same.long ∙ ap length value in
+    stay.keep.same.long ∙ ap length value in
     let now : (with_items start c.close.new.lanes).items ≡ c.close.new.lanes =
     with_items_is start c.close.new.lanes (long ∙ sym start.ok.0) in
     record {
       lanes_are =
           subst (λ (ls : List Lane). AreWhole id.opening ls c.close.new.feeder.gather) (sym now)
-          (stay.whole id.opening
+          (stay.keep.whole id.opening
           (subst (λ (ls : List Lane). AreWhole id.opening ls c.args.self.now.feeder.gather)
           (sym value) whole.lanes_are));
       publisher_is = stay.goes_on.same_publisher ∙ whole.publisher_is;

@@ -21,6 +21,5 @@ returns-clause-gather g c = λ opening gather.
     }
 
 pub returns-clause-all : goal.returns-clause-all
-returns-clause-all g c = λ opening lanes gather settled.
-    all_after c.valid_histories_hold_each_once.ensures opening lanes c.args.self.now _ _
-    gather.gather_of.basis_is settled c.pop.ensures.popped
+returns-clause-all g c =
+    all_after c.valid_histories_hold_each_once.ensures c.args.self.now _ _ c.pop.ensures.popped
