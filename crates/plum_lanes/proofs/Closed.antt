@@ -1,6 +1,5 @@
 -- Lanes whose passes came back, and left again.
 use Rattle.std.proofs.Common.{◌≡◌, ℕ, suc, ◌+◌, ◌<◌, List, [], ◌∷◌, ◌++◌, length}
-use Rattle.std.proofs.Common.{length-append, append-nil}
 use Rattle.std.proofs.Common.{slice_index_or, refl, sym, ap, ◌∙◌, subst, arith}
 use Rattle.std.proofs.lemmas.List.Sums.{sum_by-cons}
 use Rattle.std.specs.Arc.{arc_value}
@@ -15,6 +14,7 @@ use Rattle.plum_lanes.specs.declared.gatherer.Gather.{Gather}
 use Rattle.plum_lanes.specs.declared.lanes.Lane.{Lane}
 use Rattle.plum_lanes.specs.declared.rule.View.{View}
 use mathlib.Core.List.{IsPrefix}
+use base.Growing.{prefix_anti}
 use Rattle.plum_lanes.specs.Rule.{IsGatheredThen, settled_at}
 use Rattle.plum_lanes.specs.Opening.{Opening}
 use Rattle.plum_lanes.specs.Lanes.{sent, BelongsTo, IsLane, StandForTaken, HasTaken, AreLanes}
@@ -97,20 +97,6 @@ sum_at f g a (x ∷ xs) each =
       sum_by-cons g a (range_with_len (a + 1) (length xs)),
     )
 
--- A list that goes on from a front of itself goes on by nothing.
-no_more : (all front rest queued : List Entry) → all ≡ front ++ rest → front ≡ all ++ queued
-    → front ≡ all
-no_more all front rest queued all_is front_is =
-    let longer : length front ≡ length all + length queued =
-    ap length front_is ∙ length-append all queued in
-    let shorter : length all ≡ length front + length rest =
-    ap length all_is ∙ length-append front rest in
-    front_is ∙ ap (λ es. all ++ es) (empty queued (omega arith)) ∙ append-nil all
-  where
-    empty : (es : List Entry) → length es ≡ 0 → es ≡ []
-    empty [] is = refl
-    empty (e ∷ es) is = cc
-
 -- With no pass out, what is settled of a lane is all that was gathered and queued of it.
 pub settled_is : FrontOfLane → (v : View) (queued : List Entry) → IsGatheredThen v queued
     → v.out ≡ 0 → (lane : ℕ) (out all : List Entry) (settled : List (List Entry))
@@ -126,5 +112,4 @@ pub all_gathered : (lane : ℕ) (out gathered queued : List Entry)
     → out ≡ entries_of_lane lane gathered ++ entries_of_lane lane queued
     → IsPrefix out (entries_of_lane lane gathered) → out ≡ entries_of_lane lane gathered
 all_gathered lane out gathered queued is front =
-    no_more (entries_of_lane lane gathered) out front.0 (entries_of_lane lane queued) (sym front.1)
-    is
+    prefix_anti out (entries_of_lane lane gathered) front (entries_of_lane lane queued, sym is)

@@ -1,7 +1,7 @@
 -- The rule of the queue (the project's own). Whatever the threads do, at each moment what was
 -- gathered and what is queued are one valid history, and what each lane sent is its entries there.
 use Rattle.std.specs.Prelude.{◌≡◌, ℕ, zero, suc, ◌<◌, ◌≤◌, ◌⊎◌, true, false, List, [], ◌∷◌, ◌++◌}
-use Rattle.std.specs.Prelude.{Option, Some, None, IsSome}
+use Rattle.std.specs.Prelude.{Option, Some, None, IsSome, slice_index_or}
 use mathlib.Core.List.{IsPrefix}
 use mathlib.Core.Option.{some}
 use lib.ListN.{get_elem?}
@@ -25,9 +25,7 @@ IsNext basis earlier e = IsEntryAfter basis.setup basis.stations earlier e
 -- the list that is settled for a lane: what it sent, as the gatherer learned it last; empty where
 -- none is
 abbrev pub settled_at : List (List Entry) → ℕ → List Entry
-settled_at [] lane = []
-settled_at (x ∷ xs) zero = x
-settled_at (x ∷ xs) (suc lane) = settled_at xs lane
+settled_at settled lane = slice_index_or settled lane []
 
 -- the settled lists, with this one for the lane, and for the others as before
 abbrev pub settle : List (List Entry) → ℕ → List Entry → List (List Entry)
