@@ -1,8 +1,7 @@
 -- One lane of those at work has changed.
 use Rattle.std.proofs.Common.{◌≡◌, ℕ, ◌<◌, List, length, length-set, set, get_or, get_or-set_same}
-use Rattle.std.proofs.Common.{get_or-set_other, slice_index_or, take, drop, ◌++◌}
-use Rattle.std.proofs.Common.{append-nil, sym, ◌∙◌, ap, subst}
-use Rattle.std.proofs.Math.Seq.{take-length, drop-length}
+use Rattle.std.proofs.Common.{get_or-set_other, slice_index_or}
+use Rattle.std.proofs.Common.{sym, ◌∙◌, ap, subst}
 use native.Mathlib.Decide.{ℕ_discrete}
 use Rattle.plum_lanes.specs.declared.gatherer.Gather.{Gather}
 use Rattle.plum_lanes.specs.declared.lanes.Lane.{Lane}
@@ -65,16 +64,6 @@ pub IsSomeLane-stays : (stations lanes number : ℕ) (before after : Lane)
     → IsSomeLane stations lanes number after
 IsSomeLane-stays stations lanes number before after some stays =
     (some.0, some.1, stays some.0 some.1 some.2)
-
--- As many elements, written over those of a vector, are its elements.
-pub items_of : (lanes : List Lane) (n : ℕ) (new : List Lane) → n ≡ length lanes
-    → length new ≡ length lanes → take n (new ++ drop (length new) lanes) ≡ new
-items_of lanes n new n_is same =
-    ap (λ m. take n (new ++ drop m lanes)) same
-    ∙ ap (λ es. take n (new ++ es)) (drop-length lanes)
-    ∙ ap (take n) (append-nil new)
-    ∙ ap (λ m. take m new) (n_is ∙ sym same)
-    ∙ take-length new
 
 -- Lanes at work are lanes of the opening.
 pub AreSomeLanes-at_work : (opening : Opening) (stations count : ℕ) (lanes : List Lane)

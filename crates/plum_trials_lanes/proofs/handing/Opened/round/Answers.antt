@@ -1,7 +1,8 @@
 use Rattle.std.proofs.Common.{◌≡◌, length, sym, ap, ◌∙◌, subst}
+use Rattle.std.proofs.lemmas.List.{with_items_is}
 use Rattle.std.specs.Vec.{with_items}
 use Rattle.plum_trials_lanes.specs.AtWork.{AreAtWork, IsOf}
-use Rattle.plum_trials_lanes.proofs.Working.{AreSomeLanes-at_work, AreAtWork-stay, items_of}
+use Rattle.plum_trials_lanes.proofs.Working.{AreSomeLanes-at_work, AreAtWork-stay}
 use Rattle.plum_trials_lanes.proofs.handing.Opened.round.Goals as goal
 
 pub side_by_side-requires-clause-lanes : goal.side_by_side-requires-clause-lanes
@@ -25,7 +26,7 @@ close-requires g c =
     let long : length c.side_by_side.new.lanes ≡ length start.items =
     c.side_by_side.auto.lanes ∙ ap length slice in
     let now : (with_items start c.side_by_side.new.lanes).items ≡ c.side_by_side.new.lanes =
-    items_of start.items start.len c.side_by_side.new.lanes start.ok.0 long in
+    with_items_is start c.side_by_side.new.lanes (long ∙ sym start.ok.0) in
     record {
       opening = is.opening;
       shape = (is.shape.0, is.shape.1 ∙ sym (ap length now ∙ long));
