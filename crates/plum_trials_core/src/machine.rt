@@ -1,6 +1,7 @@
 //! Worked lists of events.
 
 ghost use Rattle.std.specs.Prelude.{◌≤◌};
+ghost use Rattle.plum_base.specs.declared.wave.TheConstants.Wave.{MAX};
 
 use crate::setup::{GAIN, PASS_THROUGH, THRESHOLDS, equal_samples, setup_of};
 use plum_base::{
@@ -57,7 +58,7 @@ fn sites_of(
 
 /// A packet of a station: boot 0, this number, and equal samples along x.
 fn take(alloc: Global, station: u16, number: u32, count: u16, x: i32) -> Result<Event, Fail>
-    requires { count ≤ 6000 }
+    requires { count ≤ MAX }
 {
     Ok(Event::Take(Packet {
         station: StationNo(station),

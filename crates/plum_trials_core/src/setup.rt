@@ -2,6 +2,7 @@
 
 ghost use Rattle.std.specs.Prelude.{◌≤◌};
 ghost use Rattle.plum_base.specs.Setup.{IsGain, IsLaneCount, IsQueueBound};
+ghost use Rattle.plum_base.specs.declared.wave.TheConstants.Wave.{MAX};
 
 use arrayvec::ArrayVec;
 use plum_base::{
@@ -63,7 +64,7 @@ pub fn setup_of(
 
 /// So many equal samples.
 pub fn equal_samples(alloc: Global, count: u16, sample: Sample) -> Result<Wave, NoMemory>
-    requires { count ≤ 6000 }
+    requires { count ≤ MAX }
 {
     let mut wave = Wave::with_capacity(alloc, count as usize)?;
     for _ in 0..count {

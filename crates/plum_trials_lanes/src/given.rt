@@ -2,15 +2,19 @@
 
 ghost use Rattle.std.specs.Prelude.{◌≡◌, ◌≤◌, length, IfOk};
 ghost use Rattle.plum_base.specs.Setup.{IsLaneCount, IsQueueBound};
+ghost use Rattle.plum_base.specs.declared.wave.TheConstants.Wave.{MAX};
 
 use arrayvec::ArrayVec;
 use plum_base::{
-    Cascade, Class, Gain, Key, Levels, Name, NoMemory, Packet, Point, Rules, Sample, Setup, Sites,
-    Stage, StationNo, StationSite, TargetSite, Tenths, Wave, lawful,
+    Cascade, Class, Gain, Key, LANES, Levels, Name, NoMemory, Packet, Point, Rules, Sample, Setup,
+    Sites, Stage, StationNo, StationSite, TargetSite, Tenths, Wave, lawful,
 };
 use std::alloc::Global;
 use std::process::Abort;
 use std::test::Fail;
+
+/// The most lanes of a setup.
+pub const MOST_LANES: usize = LANES.high as usize;
 
 /// The rules of the worked rows.
 const RULES: Rules = Rules {
@@ -74,7 +78,7 @@ pub fn packet_of(
     count: u16,
     x: i32,
 ) -> Result<Packet, NoMemory>
-    requires { count ≤ 6000 }
+    requires { count ≤ MAX }
     ensures { IfOk result (λ packet. packet.station.0 ≡ station) }
 {
     let mut wave = Wave::with_capacity(alloc, count as usize)?;

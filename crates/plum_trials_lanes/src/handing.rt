@@ -4,7 +4,7 @@ ghost use Rattle.std.specs.Prelude.{◌≤◌, IfOk};
 ghost use Rattle.plum_base.specs.Setup.{IsLaneCount, IsQueueBound};
 ghost use Rattle.plum_trials_lanes.specs.AtWork.{IsOpen, IsSomeLane, StaysAtWork};
 
-use crate::given::{setup_of, sites_of};
+use crate::given::{MOST_LANES, setup_of, sites_of};
 use plum_base::{Entry, Offered, Packet, Took};
 use plum_lanes::{Gather, Lane, close_round, open};
 use std::alloc::Global;
@@ -85,7 +85,7 @@ impl Opened {
         ensures { IsOpen self.new.stations self.new.lanes.items self.new.gather }
     {
         let lanes = self.lanes.as_slice().len();
-        if lanes > 16 || number as usize >= lanes {
+        if lanes > MOST_LANES || number as usize >= lanes {
             return Err("no such lane")?;
         }
         let lane = &mut self.lanes[number as usize];
@@ -99,7 +99,7 @@ impl Opened {
         ensures { IsOpen self.new.stations self.new.lanes.items self.new.gather }
     {
         let lanes = self.lanes.as_slice().len();
-        if lanes > 16 || number as usize >= lanes {
+        if lanes > MOST_LANES || number as usize >= lanes {
             return Err("no such lane")?;
         }
         let lane = &mut self.lanes[number as usize];

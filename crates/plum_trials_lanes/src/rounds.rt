@@ -5,8 +5,9 @@ ghost use Rattle.plum_lanes.specs.Gathering.{IsGather};
 ghost use Rattle.plum_lanes.specs.Opening.{Opening};
 ghost use Rattle.plum_trials_lanes.specs.AtWork.{IsOpen, IsSomeLane, StaysAtWork, StaysGather};
 ghost use Rattle.plum_trials_lanes.specs.AtWork.{AreSomeLanes, StayAtWork};
+ghost use Rattle.plum_trials_lanes.specs.declared.given.TheConstants.{MOST_LANES};
 
-use crate::given::packet_of;
+use crate::given::{MOST_LANES, packet_of};
 use crate::handing::{Opened, offer, take};
 use plum_base::{Entry, Offered};
 use plum_lanes::{Gather, Lane};
@@ -136,7 +137,7 @@ fn each<R: Threads + Wait + Sync>(
     ended: &AtomicU64,
 )
     requires some { 1 ≤ load.lanes }
-    requires few { length lanes.old ≤ 16 }
+    requires few { length lanes.old ≤ MOST_LANES }
     requires lanes { AreSomeLanes load.stations load.lanes lanes.old }
     ensures { StayAtWork load.stations load.lanes lanes.old lanes.new }
 {
@@ -168,7 +169,7 @@ fn side_by_side<R: Threads + Wait + Sync>(
     load: Load,
 )
     requires some { 1 ≤ load.lanes }
-    requires few { length lanes.old ≤ 16 }
+    requires few { length lanes.old ≤ MOST_LANES }
     requires lanes { AreSomeLanes load.stations load.lanes lanes.old }
     requires gather { (opening : Opening) × IsGather opening gather.old }
     ensures lanes { StayAtWork load.stations load.lanes lanes.old lanes.new }
@@ -183,7 +184,7 @@ fn side_by_side<R: Threads + Wait + Sync>(
             ensures { StaysGather gather.entry.now gather.exit.now }
         { feed(rt, gather, seen, &ended, total) },
         &mut ||
-            requires { (1 ≤ load.lanes) × (length lanes.now ≤ 16)
+            requires { (1 ≤ load.lanes) × (length lanes.now ≤ MOST_LANES)
                 × AreSomeLanes load.stations load.lanes lanes.now }
             ensures { StayAtWork load.stations load.lanes lanes.entry.now lanes.exit.now }
         { each(rt, alloc, lanes, load, &ended) },
@@ -204,7 +205,7 @@ impl Opened {
         ensures { IsOpen self.new.stations self.new.lanes.items self.new.gather }
     {
         let count = self.lanes.as_slice().len();
-        if count == 0 || count > 16 {
+        if count == 0 || count > MOST_LANES {
             return Err("lanes")?;
         }
         let load = Load {
