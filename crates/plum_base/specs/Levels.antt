@@ -48,11 +48,15 @@ first_not_rising ts = position_from (λ (p : ℕ × ℕ). nat_le p.1 p.0) 1 (zip
 abbrev pub IsWithinUpTo : List ℕ → ℕ → Type 0
 IsWithinUpTo ts n = (i : ℕ) → i < n → slice_index ts i ≤ GREATEST_AMPLITUDE
 
--- one threshold or more, not too many, from 0 and rising, and a base in its range
+-- one threshold or more, not too many, from 0 and rising
+pub record AreThresholds (ts : List ℕ) : Type 0 where
+  pub few : length ts ≤ MOST_LEVELS
+  pub start : StartsAtZero ts
+  pub rises : RisesUpTo ts (length ts)
+
+-- thresholds, none of them too great, and a base in its range
 pub record IsLevelTable (t : LevelsView) : Type 0 where
-  pub few : length t.thresholds ≤ MOST_LEVELS
-  pub start : StartsAtZero t.thresholds
-  pub rises : RisesUpTo t.thresholds (length t.thresholds)
+  pub thresholds : AreThresholds t.thresholds
   pub within : IsWithinUpTo t.thresholds (length t.thresholds)
   pub base : IsFactor t.base
 

@@ -36,7 +36,7 @@ on_scale table amplitudes (Some v) is_table is =
     let sum : v.0 ≡ table.base.0 +ℤ pos is.0 = ap (λ (t : Tenths). t.0) is.2 in
     let low : SCALE_LOW ≤ℤ v.0 = omega (arith, ints, is_table.base.0, sum) in
     let high : v.0 ≤ℤ SCALE_HIGH =
-    omega (arith, ints, is_table.base.1, is_table.few, is.1.1.listed, sum) in
+    omega (arith, ints, is_table.base.1, is_table.thresholds.few, is.1.1.listed, sum) in
     and_from _ _ (le_yes _ _ low) (le_yes _ _ high)
 
 module _ (setup : Setup) (stations s : ℕ) (is_table : IsLevelTable setup.levels) where

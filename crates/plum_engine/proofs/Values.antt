@@ -36,4 +36,4 @@ unfolding value_of
 value_of-is level_is setup packets lawful =
     let amplitudes = amplitudes_of setup (run_of packets) in
     IsValue-from_level setup.levels amplitudes _
-    (level_is setup.levels.thresholds amplitudes lawful.start)
+    (level_is setup.levels.thresholds amplitudes lawful.thresholds.start)

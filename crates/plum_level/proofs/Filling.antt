@@ -33,7 +33,7 @@ module _ (table : LevelsView) (is : IsLevelTable table) where
       elim (cases_Bool (leb (length ts) j)) [
         | inr listed ↦
             let at_j = leb-false (length ts) j listed in
-            let order = IsNonDecreasing-from_rises ts is.rises i j 0 le at_j in
+            let order = IsNonDecreasing-from_rises ts is.thresholds.rises i j 0 le at_j in
             omega (
               arith,
               order,
@@ -66,10 +66,10 @@ module _ (table : LevelsView) (is : IsLevelTable table) where
       (record {
         places = length-append ts fill ∙ omega (
           arith,
-          is.few,
+          is.thresholds.few,
           length-replicate (MOST_LEVELS - length ts) FILL,
         );
-        listed = omega (arith, is.few, is.start.0);
+        listed = omega (arith, is.thresholds.few, is.thresholds.start.0);
         order = filled_order;
       })
 

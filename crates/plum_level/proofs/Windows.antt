@@ -5,11 +5,10 @@ use Rattle.std.proofs.Common.{count_by, refl, subst, ◌∙◌, ap, arith, inl, 
 use Rattle.std.proofs.lemmas.Bool.{cases_Bool}
 use Rattle.std.proofs.lemmas.Bool.Decides.{nat_tests}
 use Rattle.std.proofs.lemmas.List.{length-map}
-use Rattle.plum_base.specs.Levels.{LevelsView, StartsAtZero, RisesUpTo}
+use Rattle.plum_base.specs.Levels.{LevelsView, MOST_LEVELS, AreThresholds}
 use Rattle.plum_level.specs.declared.tally.Tally.{Tally}
 use Rattle.plum_level.specs.Level.{WINDOW, ENOUGH, last_minute, reaching, sample_level, IsLevel}
 use Rattle.plum_level.specs.Level.{IsLevelOfRun}
-use Rattle.plum_base.specs.Levels.{MOST_LEVELS}
 use Rattle.plum_level.specs.Tallies.{from_level, renewed, IsSettled}
 use Rattle.plum_level.specs.Window.{WindowView, IsWindow, StandsFor}
 use Rattle.plum_level.proofs.Counting.{from_level-falls}
@@ -20,13 +19,11 @@ use Rattle.plum_level.proofs.Samples.{sample_level-listed, sample_level-reaches,
 use Rattle.plum_level.proofs.Samples.{count_by-none}
 
 -- a window of no samples
-pub IsWindow-none : (ts : List ℕ) (tally : Tally) → length ts ≤ MOST_LEVELS → StartsAtZero ts
-    → RisesUpTo ts (length ts) → tally.counts ≡ replicate MOST_LEVELS 0 → IsSettled tally
+pub IsWindow-none : (ts : List ℕ) (tally : Tally) → AreThresholds ts
+    → tally.counts ≡ replicate MOST_LEVELS 0 → IsSettled tally
     → IsWindow (record { thresholds = ts; levels = [] }) tally
-IsWindow-none ts tally few start rises none settled = record {
-  few = few;
-  start = start;
-  rises = rises;
+IsWindow-none ts tally table none settled = record {
+  table = table;
   short = omega arith;
   settled = settled;
   counted = λ k le. ap (λ counts. from_level counts k) none ∙ AreCountsOf-none k le;
@@ -39,9 +36,7 @@ pub IsWindow-renewed : (ts levels : List ℕ) (before after : Tally) (left : Opt
     → after.counts ≡ renewed before.counts left came → IsSettled after
     → IsWindow (record { thresholds = ts; levels = last_minute (levels ++ came ∷ []) }) after
 IsWindow-renewed ts levels before after left came window listed leaves is settled = record {
-  few = window.few;
-  start = window.start;
-  rises = window.rises;
+  table = window.table;
   short = omega (arith, length-last_minute (levels ++ came ∷ []));
   settled = settled;
   counted = λ k le.
@@ -77,27 +72,25 @@ module _ (window : WindowView) (tally : Tally) (table : LevelsView) (amplitudes 
   as_long : length window.levels ≡ length (last_minute amplitudes)
   as_long = ap length stands.levels ∙ length-map (last_minute amplitudes) (sample_level ts)
 
-  starts : StartsAtZero ts
-  starts = subst StartsAtZero stands.same_table is.start
-
-  rises : RisesUpTo ts (length ts)
-  rises = subst (λ xs. RisesUpTo xs (length xs)) stands.same_table is.rises
+  are_thresholds : AreThresholds ts
+  are_thresholds = subst AreThresholds stands.same_table is.table
 
   -- As many have a level or a higher one as reach its threshold.
   as_many : (k : ℕ) → k < length ts
       → from_level tally.counts k ≡ reaching (get_or ts k 0) amplitudes
   as_many k below =
-      is.counted k (omega (arith, is.few, ap length stands.same_table))
+      is.counted k (omega (arith, are_thresholds.few))
       ∙ ap (count_by (leb k)) stands.levels
       ∙ count_by-map (leb k) (leb (get_or ts k 0)) (sample_level ts)
-      (λ a. sample_level-reaches ts starts a rises k below) (last_minute amplitudes)
+      (λ a. sample_level-reaches ts are_thresholds.start a are_thresholds.rises k below)
+      (last_minute amplitudes)
 
   -- None has a level past the table.
   none_past : (k : ℕ) → length ts ≤ k → k ≤ MOST_LEVELS → from_level tally.counts k ≡ 0
   none_past k past le =
       is.counted k le ∙ ap (count_by (leb k)) stands.levels
       ∙ count_by-none (leb k) (sample_level ts) (λ a.
-      let listed = sample_level-listed ts starts a in grind (arith, nat_tests))
+      let listed = sample_level-listed ts are_thresholds.start a in grind (arith, nat_tests))
       (last_minute amplitudes)
 
   -- The top is one of the table.
@@ -107,7 +100,8 @@ module _ (window : WindowView) (tally : Tally) (table : LevelsView) (amplitudes 
         let beyond = leb-true (length ts) tally.top past in
         let top = is.settled.tallied.listed in
         let none = none_past tally.top beyond (omega arith) in
-        absurd (omega (arith, none, starts.0, is.settled.enough (omega (arith, starts.0))))
+        let some = are_thresholds.start.0 in
+        absurd (omega (arith, none, some, is.settled.enough (omega (arith, some))))
     | inr below ↦ leb-false (length ts) tally.top below
   ]
 

@@ -1,8 +1,7 @@
 -- A window, and what it was given.
 use Rattle.std.specs.Prelude.{◌≡◌, ℕ, ◌≤◌, List, length, map}
-use Rattle.plum_base.specs.Levels.{LevelsView, StartsAtZero, RisesUpTo}
+use Rattle.plum_base.specs.Levels.{LevelsView, AreThresholds}
 use Rattle.plum_level.specs.Level.{WINDOW, last_minute, sample_level}
-use Rattle.plum_base.specs.Levels.{MOST_LEVELS}
 use Rattle.plum_level.specs.Tallies.{AreCountsOf, IsSettled}
 use Rattle.plum_level.specs.declared.tally.Tally.{Tally}
 
@@ -19,9 +18,7 @@ pub record StandsFor (window : WindowView) (table : LevelsView) (amplitudes : Li
 -- What holds of a window: a table that rises from 0, a minute of levels at most, and a settled
 -- tally of them.
 pub record IsWindow (window : WindowView) (tally : Tally) : Type 0 where
-  pub few : length window.thresholds ≤ MOST_LEVELS
-  pub start : StartsAtZero window.thresholds
-  pub rises : RisesUpTo window.thresholds (length window.thresholds)
+  pub table : AreThresholds window.thresholds
   pub short : length window.levels ≤ WINDOW
   pub settled : IsSettled tally
   pub counted : AreCountsOf tally.counts window.levels

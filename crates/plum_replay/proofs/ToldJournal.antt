@@ -143,7 +143,7 @@ value_fits : (setup : Setup) (packets : List Packet) (value : Option Tenths)
     → IsLevelTable setup.levels → IsValueOf setup packets value → FitsValue value
 value_fits setup packets None table is = tt
 value_fits setup packets (Some t) table is =
-    let few = table.few in
+    let few = table.thresholds.few in
     let base = table.base in
     let listed = is.1.1.listed in
     let sum : t.0 ≡ setup.levels.base.0 +ℤ pos is.0 = ap (λ (t : Tenths). t.0) is.2 in

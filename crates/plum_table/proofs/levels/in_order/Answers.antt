@@ -5,7 +5,8 @@ use Rattle.plum_table.proofs.levels.in_order.Goals as goal
 pub returns-in-Ok : goal.returns-in-Ok
 returns-in-Ok c =
     let table = rw c.in-Ok.ensures.ok.0 at c.in-Ok.ensures.ok.1 in
-    rw (first_not_rising-none c.args.thresholds.items table.rises) (ap Ok c.in-Ok.ensures.ok.0)
+    rw (first_not_rising-none c.args.thresholds.items table.thresholds.rises)
+    (ap Ok c.in-Ok.ensures.ok.0)
 
 pub returns-in-Err-Order : goal.returns-in-Err-Order
 returns-in-Err-Order c =

@@ -7,6 +7,5 @@ invariant_of-result c =
     let table = c.new.ensures.table in
     rw (c.in_ok-with_capacity.ensures, c.new.ensures.value) (
       refl,
-      IsWindow-none _ _ table.few table.start table.rises
-          c.new-2.ensures.counts c.new-2.ensures.settled,
+      IsWindow-none _ _ table.thresholds c.new-2.ensures.counts c.new-2.ensures.settled,
     )
