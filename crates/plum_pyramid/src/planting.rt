@@ -11,7 +11,7 @@ ghost use Rattle.plum_pyramid.specs.declared.layout.Member.{Member};
 
 use crate::curve::members_of;
 use crate::layout::{Cell, Layout, Member};
-use plum_base::{NoMemory, Point, StationSite};
+use plum_base::{GRID_END, NoMemory, Point, StationSite};
 use plum_geo::Square;
 use std::alloc::{AllocError, Global};
 
@@ -23,7 +23,7 @@ pub const LEAF_SIDE: i32 = 8_192;
 const GRID: Square = Square {
     x: 0,
     y: 0,
-    side: 4_194_304,
+    side: GRID_END + 1,
 };
 
 /// Half of a side. Sides are even; of an odd one it would be the greater half.

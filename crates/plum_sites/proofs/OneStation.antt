@@ -1,5 +1,5 @@
 -- A station file has one answer.
-use Rattle.std.proofs.Common.{◌≡◌, ℕ, ℤ, pos, List, [], ◌∷◌, ◌++◌, length, All, Any, ap}
+use Rattle.std.proofs.Common.{◌≡◌, ℕ, ℤ, ◌-◌, pos, List, [], ◌∷◌, ◌++◌, length, All, Any, ap}
 use Rattle.std.proofs.Common.{◌∙◌, subst, arith, length-append, refl, sym, inl, inr}
 use Rattle.std.proofs.lemmas.Bool.{cases_eq, cases_lt}
 use Rattle.std.proofs.lemmas.List.Elements.{All-nil}
@@ -7,7 +7,7 @@ use Rattle.plum_base.specs.declared.numbers.Point.{Point}
 use Rattle.plum_base.specs.declared.numbers.Tenths.{Tenths}
 use Rattle.plum_base.specs.declared.sites.StationSite.{StationSite}
 use Rattle.plum_base.specs.Levels.{IsFactor}
-use Rattle.plum_base.specs.Sites.{IsPlace, AreStations}
+use Rattle.plum_base.specs.Sites.{IsPlace, CODES, AreStations}
 use Rattle.plum_sites.specs.declared.fault.SiteFault.{SiteFault}
 use Rattle.plum_sites.specs.declared.fault.SiteFault.TheVariants as faults
 use Rattle.plum_sites.specs.Fields.{Spells, IsNumber}
@@ -124,7 +124,7 @@ none_goes_on sites s more row n (faults.TooMany k) is lawful at =
 
 known_ranges : (code x y factor : ℤ) → Known (AreStationNumbers code x y factor)
 known_ranges code x y factor =
-    known_three _ _ _ (known_within (pos 0) (pos 65535) code) (known_place x y)
+    known_three _ _ _ (known_within (pos 0) (pos (CODES - 1)) code) (known_place x y)
     (known_factor factor)
 
 abbrev Decided : List StationSite → List (List ℕ) → ℕ → Type 0

@@ -1,8 +1,9 @@
 -- The station file (the project's own format).
-use Rattle.std.specs.Prelude.{◌≡◌, ◌≢◌, ℕ, ℤ, ◌≤◌, ◌≤ℤ◌, pos, List, [], ◌∷◌, length, codes, All}
+use Rattle.std.specs.Prelude.{◌≡◌, ◌≢◌, ℕ, ℤ, ◌-◌, ◌≤◌, ◌≤ℤ◌, pos, List, [], ◌∷◌, length, codes}
+use Rattle.std.specs.Prelude.{All}
 use Rattle.plum_base.specs.declared.sites.StationSite.{StationSite}
 use Rattle.plum_base.specs.Levels.{IsFactor}
-use Rattle.plum_base.specs.Sites.{IsPlace, MOST_STATIONS, IsCodeTaken, AreStations}
+use Rattle.plum_base.specs.Sites.{IsPlace, CODES, MOST_STATIONS, IsCodeTaken, AreStations}
 use Rattle.plum_sites.specs.declared.fault.SiteFault.{SiteFault}
 use Rattle.plum_sites.specs.declared.fault.SiteFault.TheVariants as faults
 use Rattle.plum_sites.specs.Fields.{Spells, IsNumber}
@@ -16,7 +17,7 @@ station_header = codes "code" ∷ codes "x" ∷ codes "y" ∷ codes "factor" ∷
 
 -- a code stands in two bytes of a packet
 abbrev pub IsCode : ℤ → Type 0
-IsCode code = (pos 0 ≤ℤ code) × (code ≤ℤ pos 65535)
+IsCode code = (pos 0 ≤ℤ code) × (code ≤ℤ pos (CODES - 1))
 
 -- each number of a row is in its range
 abbrev pub AreStationNumbers : ℤ → ℤ → ℤ → ℤ → Type 0

@@ -41,7 +41,7 @@ struct StationNumbers {
 fn station_fields(row: &ByteRecord) -> Option<StationFields<'_>>
     ensures fields { IfSome result (λ f. fields_of row.now
         ≡ f.code.now ∷ f.x.now ∷ f.y.now ∷ f.factor.now ∷ []) }
-    ensures none { IfNone result (length (fields_of row.now) ≢ 4) }
+    ensures none { IfNone result (length (fields_of row.now) ≢ length station_header) }
 {
     if row.len() != 4 {
         return None;

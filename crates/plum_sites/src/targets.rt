@@ -44,7 +44,7 @@ struct TargetNumbers {
 fn target_fields(row: &ByteRecord) -> Option<TargetFields<'_>>
     ensures fields { IfSome result (λ f. fields_of row.now
         ≡ f.name.now ∷ f.area.now ∷ f.x.now ∷ f.y.now ∷ f.factor.now ∷ []) }
-    ensures none { IfNone result (length (fields_of row.now) ≢ 5) }
+    ensures none { IfNone result (length (fields_of row.now) ≢ length target_header) }
 {
     if row.len() != 5 {
         return None;

@@ -2,18 +2,19 @@ use Rattle.std.proofs.Common.{◌≡◌, ◌<◌, None, length, get_or, refl, su
 use Rattle.std.proofs.Common.{arith, length-set, replicate, sym, Option, Some}
 use Rattle.plum_base.specs.declared.numbers.StationNo.{StationNo}
 use Rattle.std.proofs.lemmas.List.{length-replicate}
+use Rattle.plum_base.specs.Sites.{CODES}
 use Rattle.plum_base.proofs.ByCode.{IsFoundSoFar, none_found, one_more_found, all_found}
 use Rattle.plum_base.proofs.codes.stations_by_code.Goals as goal
 
 pub loop-n-init : goal.loop-n-init
 loop-n-init c =
-    let empty : c.in_ok-by_code.by_code.items ≡ replicate 65536 None =
+    let empty : c.in_ok-by_code.by_code.items ≡ replicate CODES None =
     c.in_ok-by_code.ensures.items_if_clones_equal
     (elim [ None ↦ λ _. refl | Some station ↦ λ clone. absurd clone ]) in
     record {
-      codes = ap length empty ∙ length-replicate {A = Option StationNo} 65536 None;
+      codes = ap length empty ∙ length-replicate {A = Option StationNo} CODES None;
       found = λ code. subst (λ t. IsFoundSoFar c.args.stations.now 0 code (get_or t code None))
-          (sym empty) (none_found c.args.stations.now 65536 code);
+          (sym empty) (none_found c.args.stations.now CODES code);
     }
 
 pub loop-n-preserved : goal.loop-n-preserved
