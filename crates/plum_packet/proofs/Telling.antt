@@ -18,7 +18,7 @@ use Rattle.plum_packet.specs.declared.records.RecordsFault.TheVariants as record
 use Rattle.plum_packet.specs.declared.segments.SegmentFault.TheVariants as segments
 use Rattle.plum_packet.specs.Counting.{fault_of_records}
 use Rattle.plum_packet.specs.Capture.{mark_body, HasRecord}
-use Rattle.plum_packet.specs.Reading.{MOST_RECORDS, HasMoreRecords, IsWithinLimit}
+use Rattle.plum_packet.specs.Reading.{MOST_RECORDS, HasTooManyRecords, IsWithinLimit}
 use Rattle.plum_packet.specs.Records.{RecordsView, GivesRecord, GoesOn, Ends, tail_in}
 use Rattle.plum_packet.specs.Segments.{SEGMENT_BODIES, Decoded, DecodesAs, IsDecodedSegment}
 use Rattle.plum_packet.proofs.Captures.{no_more_records}
@@ -230,7 +230,7 @@ module _ (stations : List StationSite) where
 
     -- a record too many
     pub too_many : old.records.given ≡ MOST_RECORDS → HasRecord new.ahead
-        → HasMoreRecords capture MOST_RECORDS
+        → HasTooManyRecords capture
     too_many full found =
         exceeds capture told.has.bodies old.records new left after MOST_RECORDS told.has.stands
         (takes_none old.records new left after on) (same ∙ full) found

@@ -1,10 +1,12 @@
 -- A reader of the bodies of a capture, one after another, and how far it has come.
-use Rattle.std.specs.Prelude.{◌≡◌, ℕ, ◌+◌, ◌<◌, List, [], ◌∷◌, ◌++◌, length, Option, Some, Ok, Err, ⊤}
+use Rattle.std.specs.Prelude.{◌≡◌, ℕ, ◌+◌, ◌<◌, List, [], ◌∷◌, ◌++◌, length, Option, Some, Ok, Err}
+use Rattle.std.specs.Prelude.{⊤}
 use Rattle.std.specs.List.{flat_map}
 use Rattle.plum_base.specs.declared.sites.StationSite.{StationSite}
 use Rattle.plum_packet.specs.declared.bodies.Found.{Found}
 use Rattle.plum_packet.specs.declared.bodies.Found.TheVariants.{Mark, Packet, Refused}
-use Rattle.plum_packet.specs.Reading.{MOST_RECORDS, HasBegun, HasMoreRecords, IsWithinLimit}
+use Rattle.plum_packet.specs.Reading.{HasBegun, HasTooManyRecords, HasNoneTooMany}
+use Rattle.plum_packet.specs.Reading.{IsWithinLimit}
 use Rattle.plum_packet.specs.Records.{RecordsView, tail_of}
 use Rattle.plum_packet.specs.Segments.{Decoded, IsCaptureOf}
 
@@ -57,7 +59,7 @@ pub record IsToldWhole (stations : List StationSite) (capture : List ℕ) (given
   pub count : reader.segments ≡ length segments
   pub all : given ≡ bodies_of segments
   pub read : left ≡ Some []
-  pub few : ¬ HasMoreRecords capture MOST_RECORDS
+  pub few : HasNoneTooMany capture
 
 -- In this step the capture ended.
 abbrev pub EndsBodies : List StationSite → BodiesView → Option (List ℕ) → BodiesView
@@ -74,4 +76,4 @@ FailsInBodies stations old left after = (capture : List ℕ) (given : List Decod
 -- In this step a record too many was met.
 abbrev pub ExceedsInBodies : List StationSite → BodiesView → Option (List ℕ) → Type 0
 ExceedsInBodies stations old left = (capture : List ℕ) (given : List Decoded)
-    → HasTold stations capture given old left → HasMoreRecords capture MOST_RECORDS
+    → HasTold stations capture given old left → HasTooManyRecords capture

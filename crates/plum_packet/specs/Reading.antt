@@ -76,7 +76,15 @@ pub record IsWithin (limit : ℕ) (capture : List ℕ) (left : Option (List ℕ)
   pub few : length bodies ≤ limit
   pub no_more : ¬ HasRecord ahead
 
--- no more than those of the longest capture
+-- The capture has more records than the longest one has.
+abbrev pub HasTooManyRecords : List ℕ → Type 0
+HasTooManyRecords capture = HasMoreRecords capture MOST_RECORDS
+
+-- It has no more than that one.
+abbrev pub HasNoneTooMany : List ℕ → Type 0
+HasNoneTooMany capture = ¬ HasTooManyRecords capture
+
+-- No more records than the longest capture has were taken.
 abbrev pub IsWithinLimit : List ℕ → Option (List ℕ) → Type 0
 IsWithinLimit capture left = IsWithin MOST_RECORDS capture left
 
