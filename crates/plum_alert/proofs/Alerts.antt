@@ -13,7 +13,7 @@ use Rattle.plum_base.specs.declared.rules.Rules.{Rules}
 use Rattle.plum_alert.specs.Readings.{class_of_reading, is_below, without_none}
 use Rattle.plum_alert.specs.Alerts.{class_of_alert, standing, class_before, calm_in_a_row, alert_at}
 use Rattle.plum_alert.specs.Alerts.{alerts_after, alerts_of}
-use Rattle.plum_alert.proofs.Lists.{last_or-push}
+use Rattle.plum_base.proofs.Pushes.{last_or-push}
 
 -- those that are not none, one none more
 without_none-none : {X : Type 0} (xs : List (Option X))

@@ -9,7 +9,7 @@ use Rattle.plum_base.specs.declared.rules.Alert.{Alert}
 use Rattle.plum_base.specs.declared.rules.Rules.{Rules}
 use Rattle.plum_alert.specs.Alerts.{standing, alert_at, AreAlerts, alerts_of}
 use Rattle.plum_alert.proofs.Alerts.{alerts_of-push}
-use Rattle.plum_alert.proofs.Lists.{by_push, slice_get-before, slice_get-after, slice_get-cases}
+use Rattle.plum_base.proofs.Pushes.{by_push, slice_get-before, slice_get-after, slice_get-cases}
 use Rattle.plum_alert.proofs.Lists.{slice_get-within, take-next}
 
 module _ (rules : Rules) where

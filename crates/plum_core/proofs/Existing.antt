@@ -21,7 +21,7 @@ use Rattle.plum_base.specs.declared.sites.StationSite.{StationSite}
 use Rattle.plum_base.specs.declared.sites.TargetSite.{TargetSite}
 use Rattle.plum_base.specs.Lane.{lane_of}
 use Rattle.plum_base.specs.Sites.{SitesView, areas_of}
-use Rattle.plum_seq.proofs.Pushes.{by_push}
+use Rattle.plum_base.proofs.Pushes.{by_push}
 use Rattle.plum_seq.specs.Keys.{keys_of, is_above_all, is_kept, greatest_key}
 use Rattle.plum_seq.specs.Laws.{GreatestIs, NoneGreatest}
 use Rattle.plum_geo.specs.Prediction.{RADIUS}

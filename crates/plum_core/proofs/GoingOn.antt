@@ -24,8 +24,9 @@ use Rattle.plum_core.specs.Transcript.{kept_in_segments_after, kept_in_segments}
 use Rattle.plum_core.specs.Transcript.{HoldsByLane, ArePredictions, IsReadingOver, IsReadingFrom}
 use Rattle.plum_core.specs.Transcript.{AreReadingsFrom}
 use Rattle.plum_core.specs.Transcript.{with_part, with_readings, IsLegalOver}
+use Rattle.plum_base.proofs.Pushes.{slice_get-cases}
 use Rattle.plum_core.proofs.Joining.{IsValidHistory-nil}
-use Rattle.plum_core.proofs.Lists.{slice_get-push, slice_get-take, beside}
+use Rattle.plum_core.proofs.Lists.{slice_get-take, beside}
 
 -- the lists joined
 abbrev joined : {X : Type 0} → List (List X) → List X
@@ -236,12 +237,12 @@ module _ (setup : Setup) (sites : SitesView) where
       old_or_new : (m a : ℕ) (reading : Reading) → IsReadingAt read_on m a reading
           → IsReadingAt t m a reading ⊎ IsNew m a reading
       old_or_new m a reading at =
-          elim (slice_get-push t.readings readings (m - 1) at.of_mark at.mark) [
+          elim (slice_get-cases t.readings readings (m - 1) at.of_mark at.mark) [
             | inl old ↦
                 inl (record {
                   from_one = at.from_one;
                   of_mark = at.of_mark;
-                  mark = old;
+                  mark = old.1;
                   area = at.area;
                 })
             | inr last ↦

@@ -7,7 +7,7 @@ use Rattle.plum_base.specs.declared.packet.Packet.{Packet}
 use Rattle.plum_base.specs.declared.numbers.LaneNo.{LaneNo}
 use Rattle.plum_base.specs.declared.setup.Setup.{Setup}
 use Rattle.plum_base.specs.Lane.{lane_of}
-use Rattle.plum_seq.proofs.Pushes.{by_push}
+use Rattle.plum_base.proofs.Pushes.{by_push}
 use Rattle.plum_seq.specs.Keys.{of_station, is_kept, kept_after, kept, is_fresh, with_fresh}
 use Rattle.plum_seq.specs.Laws.{KeptJoins, RepeatLeaves, KeptByStation, FreshAlone, KeptAfterKept}
 use Rattle.plum_seq.specs.Laws.{FreshAfterKept}

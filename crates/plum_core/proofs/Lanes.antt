@@ -3,7 +3,7 @@ use Rattle.std.proofs.Common.{◌≡◌, ℕ, Bool, true, false, cond, List, [],
 use Rattle.std.proofs.Common.{ap, append-nil, eqb-true, eq-eqb}
 use Rattle.std.proofs.lemmas.List.{map-append}
 use Rattle.std.proofs.lemmas.List.Elements.{filter-append}
-use Rattle.std.specs.Prelude.{if◌then◌else◌, ◌==◌}
+use Rattle.std.specs.Prelude.{◌==◌}
 use Rattle.plum_base.specs.declared.entry.Entry.{Entry}
 use Rattle.plum_base.specs.declared.packet.Packet.{Packet}
 use Rattle.plum_base.specs.declared.setup.Setup.{Setup}
@@ -11,6 +11,7 @@ use Rattle.plum_base.specs.Lane.{lane_of}
 use Rattle.plum_seq.specs.Keys.{of_station}
 use Rattle.plum_core.specs.History.{packet_of, packets_of, entries_of_lane, IsValidHistory}
 use Rattle.plum_core.specs.Transcript.{of_lane}
+use Rattle.plum_base.proofs.Pushes.{filter_more}
 use Rattle.plum_core.proofs.Lists.{filter_within}
 use Rattle.plum_core.proofs.Stations.{of_station-push}
 
@@ -20,22 +21,19 @@ pub entries_of_lane-append : (lane : ℕ) (front rest : List Entry)
 entries_of_lane-append lane front rest = filter-append (λ (e : Entry). e.lane.0 == lane) front rest
 
 module _ (lane : ℕ) (history : List Entry) (e : Entry) where
-  -- one more entry, whether it is of the lane or not
-  after : (b : Bool) → (e.lane.0 == lane) ≡ b → entries_of_lane lane (history ++ e ∷ [])
-      ≡ entries_of_lane lane history ++ (if b then e ∷ [] else [])
-  after b is =
-      entries_of_lane-append lane history (e ∷ [])
-      ∙ ap (λ b. entries_of_lane lane history ++ (if b then e ∷ [] else [])) is
+  abbrev of : Entry → Bool
+  of other = other.lane.0 == lane
 
   -- one more entry of the lane
   pub entries_of_lane-push : e.lane.0 ≡ lane
       → entries_of_lane lane (history ++ e ∷ []) ≡ entries_of_lane lane history ++ e ∷ []
-  entries_of_lane-push own = after true (eq-eqb e.lane.0 lane own)
+  entries_of_lane-push own = filter_more of history e true (eq-eqb e.lane.0 lane own)
 
   -- one more of another
   pub entries_of_lane-push_other : (e.lane.0 == lane) ≡ false
       → entries_of_lane lane (history ++ e ∷ []) ≡ entries_of_lane lane history
-  entries_of_lane-push_other other = after false other ∙ append-nil (entries_of_lane lane history)
+  entries_of_lane-push_other other =
+      filter_more of history e false other ∙ append-nil (entries_of_lane lane history)
 
 -- one more entry of a station
 pub packets_of-push : (history : List Entry) (e : Entry)

@@ -1,10 +1,9 @@
 -- Lists that are filtered, and what stands at a place.
 use Rattle.std.proofs.Common.{◌≡◌, ℕ, zero, suc, Bool, true, false, cond, List, [], ◌∷◌, ◌++◌}
-use Rattle.std.proofs.Common.{length, take, filter, Some, ◌⊎◌, inl, inr, refl, sym, ◌∙◌, ap, subst}
+use Rattle.std.proofs.Common.{length, take, filter, Some, inl, inr, refl, sym, ◌∙◌, ap, subst}
 use Rattle.std.specs.Prelude.{slice_get, ◌+◌}
 use Rattle.std.specs.List.{AllZip}
 use Rattle.std.proofs.lemmas.List.{length_push}
-use Rattle.std.proofs.lemmas.List.Elements.{filter-append}
 use Rattle.std.proofs.lemmas.Bool.{cases_Bool, false_from_ne_true, true≢false}
 
 -- what passes both tests, where whatever passes the second passes the first
@@ -23,29 +22,10 @@ filter_within {X} p q within (x ∷ xs) =
           ∙ sym (ap (λ b. cond b (x ∷ filter q xs) (filter q xs)) out)
     ]
 
--- what passes a test of a list with one more at its end
-pub filter_more : {X : Type 0} (p : X → Bool) (xs : List X) (x : X) (b : Bool) → p x ≡ b
-    → filter p (xs ++ x ∷ []) ≡ filter p xs ++ cond b (x ∷ []) []
-filter_more p xs x b is =
-    filter-append p xs (x ∷ []) ∙ ap (λ b. filter p xs ++ cond b (x ∷ []) []) is
-
--- how long it is
+-- how long a list with one more at its end is
 pub length_more : {X : Type 0} (xs : List X) (x : X) (n : ℕ) → length xs ≡ n
     → length (xs ++ x ∷ []) ≡ n + 1
 length_more xs x n is = length_push xs x ∙ ap (λ n. n + 1) is
-
--- what stands at a place of it
-pub slice_get-push : {X : Type 0} (xs : List X) (x : X) (i : ℕ) (y : X)
-    → slice_get (xs ++ x ∷ []) i ≡ Some y
-    → (slice_get xs i ≡ Some y) ⊎ ((i ≡ length xs) × (x ≡ y))
-slice_get-push [] x zero y is = inr (refl, cc)
-slice_get-push [] x (suc i) y is = cc
-slice_get-push (first ∷ xs) x zero y is = inl is
-slice_get-push (first ∷ xs) x (suc i) y is =
-    elim (slice_get-push xs x i y is) [
-      | inl before ↦ inl before
-      | inr last ↦ inr (ap suc last.0, last.1)
-    ]
 
 -- what stands at a place of a front stands there in the whole list
 pub slice_get-take : {X : Type 0} (n : ℕ) (xs : List X) (i : ℕ) (y : X)

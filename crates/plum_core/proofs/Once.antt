@@ -1,16 +1,17 @@
 -- A valid history holds no key of a station twice: each is above those before it.
 use Rattle.std.proofs.Common.{◌≡◌, ◌≢◌, ℕ, zero, suc, ◌<◌, Bool, true, false, true≢false}
-use Rattle.std.proofs.Common.{cond, ◌&&◌}
+use Rattle.std.proofs.Common.{cond}
 use Rattle.std.proofs.Common.{List, [], ◌∷◌, length, map, get_or, refl, sym, ◌∙◌, ap, subst}
 use Rattle.std.proofs.Common.{arith, eq-eqb}
 use Rattle.std.proofs.lemmas.List.Quantifiers.{all_pairs_push}
+use Rattle.std.proofs.lemmas.Bool.{and_parts}
 use Rattle.std.proofs.lemmas.Bool.Decides.{nat_tests}
 use Rattle.std.specs.Prelude.{◌==◌}
 use Rattle.plum_base.specs.declared.entry.Entry.{Entry}
 use Rattle.plum_base.specs.declared.numbers.Key.{Key}
 use Rattle.plum_base.specs.declared.packet.Packet.{Packet}
 use Rattle.plum_base.specs.declared.setup.Setup.{Setup}
-use Rattle.plum_seq.proofs.Pushes.{by_push}
+use Rattle.plum_base.proofs.Pushes.{by_push}
 use Rattle.plum_seq.specs.Keys.{of_station, is_below, is_above_all, is_kept}
 use Rattle.plum_core.specs.History.{packet_of, IsEntryAfter, IsValidHistory, IsEachOnce}
 use Rattle.plum_core.proofs.Joining.{IsValidHistory-front}
@@ -22,18 +23,13 @@ apart a b below is =
     let not : is_below b b ≡ false = grind (arith, nat_tests) in
     true≢false (sym same ∙ not)
 
-both : (a b : Bool) → (a && b) ≡ true → (a ≡ true) × (b ≡ true)
-both true true is = (is, is)
-both true false is = absurd (true≢false (sym is))
-both false b is = absurd (true≢false (sym is))
-
 -- A key above those of some packets, the first of which may be left out.
 above : (key : Key) (p : Packet) (ps : List Packet) (own : Bool)
     → is_above_all (map (λ (q : Packet). q.key) (cond own (p ∷ ps) ps)) key ≡ true
     → (own ≡ true → is_below p.key key ≡ true)
     × (is_above_all (map (λ (q : Packet). q.key) ps) key ≡ true)
 above key p ps true is =
-    let parts = both (is_below p.key key) _ is in
+    let parts = and_parts (is_below p.key key) _ is in
     ((λ _. parts.0), parts.1)
 above key p ps false is = ((λ own. absurd (true≢false (sym own))), is)
 

@@ -10,7 +10,7 @@ use Rattle.plum_base.specs.declared.entry.Entry.{Entry}
 use Rattle.plum_base.specs.declared.numbers.Tenths.{Tenths}
 use Rattle.plum_base.specs.declared.setup.Setup.{Setup}
 use Rattle.plum_base.specs.Levels.{LevelsView, IsLevelTable}
-use Rattle.plum_seq.proofs.Pushes.{by_push}
+use Rattle.plum_base.proofs.Pushes.{by_push}
 use Rattle.plum_seq.specs.Keys.{of_station, with_fresh}
 use Rattle.plum_engine.specs.Engine.{IsValueOf}
 use Rattle.plum_engine.specs.Value.{IsValue}

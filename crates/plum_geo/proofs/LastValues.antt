@@ -1,19 +1,12 @@
 -- What a station shows after one more entry.
-use Rattle.std.proofs.Common.{◌≡◌, ℕ, ◌<◌, Bool, true, false, cond, List, [], ◌∷◌, ◌++◌, filter}
-use Rattle.std.proofs.Common.{Option, Some, None, refl, ◌∙◌, ap, append-nil}
+use Rattle.std.proofs.Common.{◌≡◌, ℕ, ◌<◌, Bool, true, false, List, [], ◌∷◌, ◌++◌, filter}
+use Rattle.std.proofs.Common.{None, ◌∙◌, ap, append-nil}
 use Rattle.std.proofs.lemmas.Bool.{lt-ltb}
-use Rattle.std.proofs.lemmas.List.Elements.{filter-append}
-use Rattle.std.specs.List.{last_or}
 use Rattle.std.specs.Option.{option_and_then}
 use Rattle.std.specs.Prelude.{if◌then◌else◌}
 use Rattle.plum_base.specs.declared.entry.Entry.{Entry}
+use Rattle.plum_base.proofs.Pushes.{last_or-push, filter_more}
 use Rattle.plum_geo.specs.Prediction.{shown_entries, last_value, shown}
-
--- the last one, whatever there is where the list is empty
-last_or-push : {X : Type 0} (other : Option X) (xs : List X) (x : X)
-    → last_or other (xs ++ x ∷ []) ≡ Some x
-last_or-push other [] x = refl
-last_or-push other (y ∷ ys) x = last_or-push (Some y) ys x
 
 -- A listed station shows the value of its last entry.
 pub shown-listed : (stations : ℕ) (history : List Entry) (s : ℕ) → s < stations
@@ -22,19 +15,14 @@ shown-listed stations history s listed =
     ap (λ b. if b then last_value (shown_entries history s) else None) (lt-ltb s stations listed)
 
 module _ (passes : Entry → Bool) (es : List Entry) (e : Entry) where
-  -- the entries that pass, after one more entry
-  after : (b : Bool) → passes e ≡ b
-      → filter passes (es ++ e ∷ []) ≡ filter passes es ++ cond b (e ∷ []) []
-  after b is =
-      filter-append passes es (e ∷ []) ∙ ap (λ b. filter passes es ++ cond b (e ∷ []) []) is
-
   -- one that passes
   pub last_value-push : passes e ≡ true → last_value (filter passes (es ++ e ∷ [])) ≡ e.value
   last_value-push is =
-      ap last_value (after true is)
+      ap last_value (filter_more passes es e true is)
       ∙ ap (option_and_then (λ f. f.value)) (last_or-push None (filter passes es) e)
 
   -- one that does not
   pub last_value-push_other : passes e ≡ false
       → last_value (filter passes (es ++ e ∷ [])) ≡ last_value (filter passes es)
-  last_value-push_other is = ap last_value (after false is ∙ append-nil (filter passes es))
+  last_value-push_other is =
+      ap last_value (filter_more passes es e false is ∙ append-nil (filter passes es))

@@ -1,43 +1,16 @@
 -- The best at a place over one station more.
-use Rattle.std.proofs.Common.{◌≡◌, ℕ, zero, suc, ◌⊎◌, List, [], ◌∷◌, ◌++◌, length, Option, Some}
-use Rattle.std.proofs.Common.{None, inl, inr, refl, sym, ◌∙◌, ap, subst, arith, ◌<◌}
+use Rattle.std.proofs.Common.{◌≡◌, ℕ, ◌⊎◌, List, [], ◌∷◌, ◌++◌, length, Option, Some}
+use Rattle.std.proofs.Common.{None, inl, inr, sym, ◌∙◌, ap, subst, arith}
 use lib.Signed.{≤ℤ_refl}
 use Rattle.std.proofs.lemmas.Int.{ints}
-use Rattle.std.proofs.lemmas.List.{length_push}
-use Rattle.std.proofs.lemmas.Option.{none-some, same_Some, slice_get_read}
-use Rattle.std.proofs.Math.Seq.{get_or-append_seam}
-use Rattle.std.specs.Prelude.{slice_get, IfSome, IfNone, IsSomeAnd, ℤ, ◌≤ℤ◌}
+use Rattle.std.proofs.lemmas.Option.{none-some, same_Some, slice_get_within}
+use Rattle.std.specs.Prelude.{IfSome, IfNone, IsSomeAnd, ℤ, ◌≤ℤ◌}
 use Rattle.plum_base.specs.declared.numbers.Point.{Point}
 use Rattle.plum_base.specs.declared.numbers.Tenths.{Tenths}
 use Rattle.plum_base.specs.declared.sites.StationSite.{StationSite}
+use Rattle.plum_base.proofs.Pushes.{slice_get-before, slice_get-after, slice_get-cases}
 use Rattle.plum_geo.specs.Prediction.{corrected, IsAtMost, IsNear, FindsNear, Reports}
 use Rattle.plum_geo.specs.Prediction.{IsSaid, IsBest}
-
-module _ {X : Type 0} where
-  -- the element after the others
-  slice_get_after : (xs : List X) (x : X) → slice_get (xs ++ x ∷ []) (length xs) ≡ Some x
-  slice_get_after xs x =
-      let below : length xs < length (xs ++ x ∷ []) = omega (arith, length_push xs x) in
-      slice_get_read (xs ++ x ∷ []) (length (xs ++ x ∷ [])) (length xs) x refl below
-      (sym (get_or-append_seam xs x [] x))
-
-  -- an element of a list is one of the longer list
-  slice_get-before : (xs : List X) (x : X) (n : ℕ) (y : X)
-      → slice_get xs n ≡ Some y → slice_get (xs ++ x ∷ []) n ≡ Some y
-  slice_get-before [] x n y is = absurd (none-some y is)
-  slice_get-before (z ∷ zs) x zero y is = is
-  slice_get-before (z ∷ zs) x (suc n) y is = slice_get-before zs x n y is
-
-  -- an element of the longer list is an earlier one, or the last
-  slice_get-cases : (xs : List X) (x : X) (n : ℕ) (y : X) → slice_get (xs ++ x ∷ []) n ≡ Some y
-      → (slice_get xs n ≡ Some y) ⊎ ((n ≡ length xs) × (x ≡ y))
-  slice_get-cases [] x zero y is = inr (refl, same_Some x y is)
-  slice_get-cases [] x (suc n) y is = absurd (none-some y is)
-  slice_get-cases (z ∷ zs) x zero y is = inl is
-  slice_get-cases (z ∷ zs) x (suc n) y is = elim (slice_get-cases zs x n y is) [
-    | inl before ↦ inl before
-    | inr last ↦ inr (ap suc last.0, last.1)
-  ]
 
 -- What is said is at least z.
 abbrev Reaches : ℤ → Option Tenths → Type 0
@@ -113,8 +86,11 @@ module _ (values : ℕ → Option Tenths) (place : Point) where
           let r : Reports longer values place n said.1 = record {
             site = from;
             near =
-                (finds longer place n from).1
-                (slice_get-before stations site n from found.0, found.1);
+                (finds longer place n from).1 (
+                  slice_get-before stations site n (slice_get_within stations n from found.0)
+                      ∙ found.0,
+                  found.1,
+                );
             shows = said.2.shows;
           } in
           (n, said.1, r, said.3)
@@ -127,7 +103,7 @@ module _ (values : ℕ → Option Tenths) (place : Point) where
           let n : ℕ = length stations in
           let r : Reports longer values place n says.1 = record {
             site = site;
-            near = (finds longer place n site).1 (slice_get_after stations site, says.0);
+            near = (finds longer place n site).1 (slice_get-after stations site, says.0);
             shows = says.2;
           } in
           (n, says.1, r, says.3)
@@ -155,7 +131,7 @@ module _ (values : ℕ → Option Tenths) (place : Point) where
               | inl listed ↦
                   let earlier : Reports stations values place n value = record {
                     site = r.site;
-                    near = (finds stations place n r.site).1 (listed, found.1);
+                    near = (finds stations place n r.site).1 (listed.1, found.1);
                     shows = r.shows;
                   } in
                   reaches before after (corrected r.site value) first

@@ -1,6 +1,6 @@
 -- The samples that the code makes are those of the body.
-use Rattle.std.proofs.Common.{◌≡◌, ℕ, zero, suc, ◌+◌, ◌-◌, ◌^◌, ◌<◌, ℤ, List, [], ◌∷◌, ◌++◌, length}
-use Rattle.std.proofs.Common.{take, drop, get_or, get_or-drop, Some, ap, sym, ◌∙◌, below_more, refl}
+use Rattle.std.proofs.Common.{◌≡◌, ℕ, ◌+◌, ◌-◌, ◌^◌, ◌<◌, ℤ, List, [], ◌∷◌, ◌++◌, length}
+use Rattle.std.proofs.Common.{take, drop, get_or, get_or-drop, Some, ap, sym, ◌∙◌, below_more}
 use Rattle.std.proofs.Common.{to_z, of_z, arith}
 use Rattle.std.specs.Prelude.{slice_get}
 use Rattle.std.specs.Int.{w32, cast_signed}
@@ -8,6 +8,7 @@ use Rattle.std.proofs.lemmas.Int.{ints, of_z-to_z}
 use Rattle.byteorder.specs.Endian.{big_number, twos_complement}
 use Rattle.byteorder.specs.Numbers.{big_from-lt}
 use Rattle.plum_base.specs.declared.wave.Sample.{Sample}
+use Rattle.plum_base.proofs.Pushes.{slice_get-before, slice_get-after}
 use Rattle.plum_packet.specs.Body.{number_at, signed_at, sample_at}
 use Rattle.plum_packet.proofs.Fields.{number_of-rest}
 
@@ -35,24 +36,11 @@ component offset at body z bytes e made =
     ∙ ap (λ (k : ℕ). to_z w32 k) (of_z-to_z w32 n fits)
     ∙ cast_signed-word n fits
 
--- an element is where it was when a list grows behind it
-slice_get-append : {X : Type 0} (xs ys : List X) (k : ℕ) → k < length xs
-    → slice_get (xs ++ ys) k ≡ slice_get xs k
-slice_get-append [] ys k h = absurd (omega arith)
-slice_get-append (x ∷ xs) ys zero h = refl
-slice_get-append (x ∷ xs) ys (suc k) h = slice_get-append xs ys k (omega arith)
-
--- the first element of the second list stands behind the first list
-slice_get-seam : {X : Type 0} (xs : List X) (y : X) (ys : List X)
-    → slice_get (xs ++ y ∷ ys) (length xs) ≡ Some y
-slice_get-seam [] y ys = refl
-slice_get-seam (x ∷ xs) y ys = slice_get-seam xs y ys
-
 -- one sample more
 pub more_samples : (body : List ℕ) (wave : List Sample) (i : ℕ) (next : Sample) → length wave ≡ i
     → ((k : ℕ) → k < i → slice_get wave k ≡ Some (sample_at body k)) → next ≡ sample_at body i
     → (k : ℕ) → k < i + 1 → slice_get (wave ++ next ∷ []) k ≡ Some (sample_at body k)
 more_samples body wave i next e each here =
     below_more (λ k. slice_get (wave ++ next ∷ []) k ≡ Some (sample_at body k)) i
-    (λ k h. slice_get-append wave (next ∷ []) k (omega arith) ∙ each k h)
-    (ap (slice_get (wave ++ next ∷ [])) (sym e) ∙ slice_get-seam wave next [] ∙ ap Some here)
+    (λ k h. slice_get-before wave next k (omega arith) ∙ each k h)
+    (ap (slice_get (wave ++ next ∷ [])) (sym e) ∙ slice_get-after wave next ∙ ap Some here)

@@ -1,44 +1,33 @@
 -- What stations were last set to, after one was set.
-use Rattle.std.proofs.Common.{◌≡◌, ◌≢◌, ℕ, ◌<◌, Bool, true, false, cond, List, [], ◌∷◌, ◌++◌}
+use Rattle.std.proofs.Common.{◌≡◌, ◌≢◌, ℕ, ◌<◌, Bool, true, false, List, [], ◌∷◌, ◌++◌}
 use Rattle.std.proofs.Common.{length}
-use Rattle.std.proofs.Common.{filter, Option, Some, None, inl, inr, refl, sym, ◌∙◌, ap, arith}
+use Rattle.std.proofs.Common.{filter, None, inl, inr, sym, ◌∙◌, ap, arith}
 use Rattle.std.proofs.Common.{append-nil, length-set}
 use Rattle.std.proofs.lemmas.Bool.{cases_eq, eq-eqb, ne_eqb}
 use Rattle.std.proofs.lemmas.Grind.{get_or-set_at}
 use Rattle.std.proofs.lemmas.List.{get_or-set_other}
-use Rattle.std.proofs.lemmas.List.Elements.{filter-append}
 use Rattle.std.specs.List.{last_or}
 use Rattle.std.specs.Option.{option_and_then}
 use Rattle.std.specs.Prelude.{◌==◌}
 use Rattle.plum_base.specs.declared.sites.StationSite.{StationSite}
+use Rattle.plum_base.proofs.Pushes.{last_or-push, filter_more}
 use Rattle.plum_pyramid.specs.Pyramid.{PyramidView, Setting, StandsFor, last_set, pyramid_after}
-
--- the last one, whatever there is where the list is empty
-last_or-push : {X : Type 0} (other : Option X) (xs : List X) (x : X)
-    → last_or other (xs ++ x ∷ []) ≡ Some x
-last_or-push other [] x = refl
-last_or-push other (y ∷ ys) x = last_or-push (Some y) ys x
 
 module _ (settings : List Setting) (s : Setting) (n : ℕ) where
   abbrev of : Setting → Bool
   of other = other.station.0 == n
 
-  -- the sets of a station, after one more
-  after : (b : Bool) → of s ≡ b
-      → filter of (settings ++ s ∷ []) ≡ filter of settings ++ cond b (s ∷ []) []
-  after b is =
-      filter-append of settings (s ∷ []) ∙ ap (λ b. filter of settings ++ cond b (s ∷ []) []) is
-
   last_set-own : s.station.0 ≡ n → last_set (settings ++ s ∷ []) n ≡ s.value
   last_set-own is =
       ap (λ (ss : List Setting). option_and_then (λ s. s.value) (last_or None ss))
-      (after true (eq-eqb s.station.0 n is))
+      (filter_more of settings s true (eq-eqb s.station.0 n is))
       ∙ ap (option_and_then (λ s. s.value)) (last_or-push None (filter of settings) s)
 
   last_set-other : s.station.0 ≢ n → last_set (settings ++ s ∷ []) n ≡ last_set settings n
   last_set-other other =
       ap (λ (ss : List Setting). option_and_then (λ s. s.value) (last_or None ss))
-      (after false (ne_eqb s.station.0 n other) ∙ append-nil (filter of settings))
+      (filter_more of settings s false (ne_eqb s.station.0 n other)
+      ∙ append-nil (filter of settings))
 
 -- The pyramid after a station was set stands for all sets.
 pub StandsFor-set : (pyramid : PyramidView) (stations : List StationSite)

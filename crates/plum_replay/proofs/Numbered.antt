@@ -20,7 +20,8 @@ use Rattle.plum_base.specs.declared.numbers.TargetNo.{TargetNo}
 use Rattle.plum_base.specs.declared.sites.TargetSite.{TargetSite}
 use Rattle.plum_base.proofs.ByNumber.{numbers_push}
 use Rattle.plum_base.specs.Sites.{AreNumbersOf, areas_of, first_appearances, targets_of}
-use Rattle.plum_core.proofs.Lists.{filter_more, beside}
+use Rattle.plum_base.proofs.Pushes.{filter_more}
+use Rattle.plum_core.proofs.Lists.{beside}
 use Rattle.plum_replay.proofs.Lists.{AllZip-by_index}
 use Rattle.plum_replay.specs.Areas.{AreByArea}
 use borrow.Author.Tests.{ltb-true, ltb-false}

@@ -14,7 +14,7 @@ use Rattle.std.specs.Prelude.{Any}
 use Rattle.plum_base.specs.declared.numbers.Key.{Key}
 use Rattle.plum_seq.specs.Keys.{is_below, is_above_all, greater_key, greatest_key, IsGreatestKey}
 use Rattle.plum_seq.specs.Keys.{is_fresh_after}
-use Rattle.plum_seq.proofs.Pushes.{by_push}
+use Rattle.plum_base.proofs.Pushes.{by_push}
 
 -- The order of keys is transitive.
 is_below-trans : (a b c : Key) → is_below a b ≡ true → is_below b c ≡ true → is_below a c ≡ true

@@ -1,4 +1,3 @@
-pub mod Pushes
 pub mod Greatest
 pub mod Picked
 pub mod Kept

@@ -4,7 +4,12 @@ use Rattle.std.proofs.Common.{inr, refl, sym, ◌∙◌, ap, append-nil, append_
 use Rattle.std.proofs.lemmas.Bool.{cases_Bool}
 use Rattle.std.specs.Prelude.{if◌then◌else◌, filter, map, take}
 use Rattle.std.specs.List.{enumerate_from}
-use Rattle.plum_seq.proofs.Pushes.{if-append}
+
+-- a test within an append
+if-append : {X : Type 0} (b : Bool) (x : X) (xs ys : List X)
+    → (if b then x ∷ (xs ++ ys) else xs ++ ys) ≡ (if b then x ∷ xs else xs) ++ ys
+if-append true x xs ys = refl
+if-append false x xs ys = refl
 
 module _ {X Y : Type 0} where
   -- what is given at each position that is picked, of a list numbered from n

@@ -14,7 +14,7 @@ use Rattle.plum_seq.proofs.Greatest.{is_above, is_above_all-is_above, greatest_k
 use Rattle.plum_seq.proofs.Greatest.{greater_key-above, greater_key-not_above}
 use Rattle.plum_seq.proofs.Kept.{kept-push, kept-push_repeat, with_fresh-push}
 use Rattle.plum_seq.proofs.Kept.{with_fresh-push_repeat}
-use Rattle.plum_seq.proofs.Pushes.{by_push, last_or-push}
+use Rattle.plum_base.proofs.Pushes.{by_push, last_or-push}
 
 -- A packet is kept exactly where its key is above the greatest of its station.
 is_kept-is_above : (ps : List Packet) (p : Packet)

@@ -5,7 +5,7 @@ use Rattle.std.specs.Str.{bytes_eq}
 use Rattle.plum_base.specs.declared.sites.TargetSite.{TargetSite}
 use Rattle.plum_base.specs.Sites.{targets_of}
 use Rattle.plum_geo.specs.Prediction.{IsPredictionOver}
-use Rattle.plum_core.proofs.Lists.{filter_more}
+use Rattle.plum_base.proofs.Pushes.{filter_more}
 use Rattle.plum_core.proofs.area.read_area.Goals as goal
 use Rattle.plum_core.proofs.area.read_area.Goals.{then-eq+in_ok-push, else-eq}
 
