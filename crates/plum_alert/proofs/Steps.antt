@@ -2,6 +2,7 @@
 use Rattle.std.proofs.Common.{◌≡◌, ◌≢◌, ℕ, suc, add-one, ◌+◌, ◌≤◌, Bool, true, false, ◌&&◌, List}
 use Rattle.std.proofs.Common.{[], ◌∷◌, ◌++◌, ◌⊎◌}
 use Rattle.std.proofs.Common.{Option, Some, None, refl, sym, ◌∙◌, ap, subst, arith, inl, inr}
+use Rattle.std.proofs.lemmas.Bool.{and_parts}
 use Rattle.std.proofs.lemmas.Bool.Decides.{nat_tests}
 use Rattle.std.specs.Prelude.{if◌then◌else◌}
 use Rattle.plum_base.specs.declared.answers.Reading.{Reading}
@@ -84,11 +85,6 @@ calm_one : (b : Bool) (calm next : ℕ) → next ≡ (if b then calm + 1 else 0)
 calm_one true calm next next-is some = refl
 calm_one false calm next next-is some = absurd (omega arith)
 
--- the first of two tests that both pass
-and-left : (a b : Bool) → (a && b) ≡ true → a ≡ true
-and-left true b both = refl
-and-left false b both = both
-
 -- a class that was let through by a test
 if-some : (b : Bool) (own : Option Class) (class : Class) → Some class ≡ (if b then own else None)
     → (own ≡ Some class) × (b ≡ true)
@@ -161,7 +157,8 @@ module _ (rules : Rules) (given : List Reading) (reading : Reading) where
         → Tells rules given reading (record { rules = rules; standing = AlertAt class 0 })
         (Some (Raise class))
     next-raise class class-is raises cancel-in =
-        let not_calm = not_calm-reaches (Some class) rules (and-left _ reached raises) cancel-in in
+        let reaching = (and_parts _ reached raises).0 in
+        let not_calm = not_calm-reaches (Some class) rules reaching cancel-in in
         let both : (reaches (Some class) rules.raise && reaches (class_before given) rules.raise)
         ≡ true = rw (← quiet.1) raises in
         Tells-alert rules given reading (Some (Raise class)) None quiet.0 (rw (← class-is, both))

@@ -4,7 +4,8 @@ use Rattle.std.proofs.Common.{List, [], ◌∷◌, ◌++◌, length, map, filter
 use Rattle.std.proofs.Common.{Some, Any, IsSomeAnd, nat_eq, refl, sym, ap, ◌∙◌, arith}
 use Rattle.std.specs.Cmp.Lexicographic.{pointwise, bytes_decides}
 use Rattle.std.specs.List.{list_any}
-use Rattle.std.proofs.lemmas.Bool.{false≢true, not_from_false, false_from_ne_true}
+use Rattle.std.proofs.lemmas.Bool.{false≢true, not_from_false, false_from_ne_true, or_left}
+use Rattle.std.proofs.lemmas.Bool.{or_right}
 use Rattle.std.proofs.lemmas.List.{take_more, map-append, append-nil, length_push}
 use Rattle.std.proofs.lemmas.List.Elements.{filter-append}
 use Rattle.std.proofs.lemmas.List.Folds.{Any-from_list_any, list_any-from_Any}
@@ -32,13 +33,6 @@ appearances_push (x ∷ xs) y =
     ∙ ap (λ l. filter test (first_appearances xs) ++ l)
     (filter_last (pointwise nat_eq x y) b y test refl))
 
-either : (p b : Bool) → p ≡ true → (p || b) ≡ true
-either p b e = rw e
-
-other : (p b : Bool) → b ≡ true → (p || b) ≡ true
-other true b e = refl
-other false b e = e
-
 neither : (p b : Bool) → ¬ (p ≡ true) → b ≡ false → (p || b) ≡ false
 neither true b n e = absurd (n refl)
 neither false b n e = e
@@ -46,8 +40,8 @@ neither false b n e = e
 seen : {X : Type 0} (v : X → List ℕ) (xs : List X) (y : List ℕ) (k : ℕ) (x : X) → k < length xs
     → get_or xs k x ≡ x → v x ≡ y → list_any (λ z. pointwise nat_eq z y) (map v xs) ≡ true
 seen v [] y k x l e s = absurd (omega arith)
-seen v (z ∷ xs) y zero x l e s = either _ _ ((bytes_decides (v z) y).1 (ap v e ∙ s))
-seen v (z ∷ xs) y (suc k) x l e s = other _ _ (seen v xs y k x (omega arith) e s)
+seen v (z ∷ xs) y zero x l e s = or_left _ _ ((bytes_decides (v z) y).1 (ap v e ∙ s))
+seen v (z ∷ xs) y (suc k) x l e s = or_right _ _ (seen v xs y k x (omega arith) e s)
 
 unseen : {X : Type 0} (v : X → List ℕ) (xs : List X) (y : List ℕ) → ¬ Any (λ x. v x ≡ y) xs
     → list_any (λ x. pointwise nat_eq x y) (map v xs) ≡ false

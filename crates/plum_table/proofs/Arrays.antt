@@ -1,7 +1,7 @@
 -- The items of an array, beside what the format says of an array of a kind.
 use Rattle.std.proofs.Common.{◌≡◌, ℕ, suc, ◌≤◌, List, [], ◌∷◌, length, Option, Some, None, IsSome}
 use Rattle.std.proofs.Common.{option_map, Ok, Err, true, inl, inr, refl, ap, arith}
-use Rattle.std.proofs.lemmas.Bool.{cases_Bool, false≢true}
+use Rattle.std.proofs.lemmas.Bool.{cases_Bool, false≢true, leb-true}
 use Rattle.std.proofs.lemmas.Bool.Decides.{nat_tests}
 use Rattle.std.proofs.lemmas.List.Elements.{All-nil, All-cons, All-head, All-tail}
 use Rattle.std.specs.Prelude.{ok_or, option_and_then, nat_le}
@@ -74,15 +74,12 @@ in_count-within key most xs some few =
     let second : nat_le (length xs) most ≡ true = grind (arith, nat_tests) in
     rw (first, second)
 
-le-from_test : (m n : ℕ) → nat_le m n ≡ true → m ≤ n
-le-from_test m n is = grind (arith, nat_tests)
-
 in_count-out : {A : Type 0} (key : SetupKey) (most : ℕ) (xs : List A)
     → ¬ ((1 ≤ length xs) × (length xs ≤ most)) → in_count key most xs ≡ Err (Range key)
 in_count-out key most xs out =
     elim (cases_Bool (nat_le 1 (length xs))) [
       | inl some ↦ elim (cases_Bool (nat_le (length xs) most)) [
-        | inl few ↦ absurd (out (le-from_test _ _ some, le-from_test _ _ few))
+        | inl few ↦ absurd (out (leb-true _ _ some, leb-true _ _ few))
         | inr many ↦ rw (some, many)
       ]
       | inr none ↦ rw none
