@@ -28,7 +28,8 @@ use Rattle.plum_packet.specs.declared.bodies.Found.{Found}
 use Rattle.plum_packet.specs.Laws.{DecodedInOneWay, GivenBegins}
 use Rattle.plum_packet.specs.Records.{tail_of}
 use Rattle.plum_packet.specs.Segments.{Decoded, IsCaptureOf, packets_in, refused_in}
-use Rattle.plum_packet.proofs.OneBody.{code_at, same_station}
+use Rattle.plum_base.proofs.Coded.{listed_code}
+use Rattle.plum_packet.proofs.OneBody.{same_station}
 use Rattle.plum_replay.proofs.Stopping.{front_of}
 use Rattle.plum_replay.proofs.Writings.{appends-nil}
 use Rattle.plum_seq.specs.Keys.{kept}
@@ -99,7 +100,7 @@ no_site = record {
 none_has : (stations : List StationSite) (n code : ℕ) → HasNoCode stations code
     → HasCode stations n code → ⊥
 none_has stations n code none has =
-    let at = code_at stations n code no_site has in none n no_site at.0 at.1
+    let at = listed_code stations n code has in none n no_site at.0 (at.1 no_site)
 
 -- Where codes are distinct, one station is found at a code, or none.
 one_found : (stations : List StationSite) (code : ℕ) (some other : Option StationNo)

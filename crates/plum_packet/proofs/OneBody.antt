@@ -1,6 +1,6 @@
 -- A body that is a packet is what is written of that packet.
-use Rattle.std.proofs.Common.{◌≡◌, ℕ, zero, suc, ◌+◌, ◌*◌, ◌<◌, ◌≤◌, List, [], ◌∷◌}
-use Rattle.std.proofs.Common.{◌++◌, length, take, drop, get_or, Some, None, w32, refl, sym, ap}
+use Rattle.std.proofs.Common.{◌≡◌, ℕ, suc, ◌+◌, ◌*◌, ◌<◌, ◌≤◌, List, [], ◌∷◌}
+use Rattle.std.proofs.Common.{◌++◌, length, take, drop, Some, None, w32, refl, sym, ap}
 use Rattle.std.proofs.Common.{◌∙◌, inl, inr, arith, length-drop, take-append-drop, drop-drop}
 use Rattle.std.proofs.Common.{slice_get, subst, pos, Option, IsSomeAnd, ◌%◌}
 use Rattle.std.proofs.lemmas.Bool.{cases_eq, cases_order, cases_Bool, false≢true}
@@ -19,6 +19,7 @@ use Rattle.plum_base.specs.declared.numbers.Key.{Key}
 use Rattle.plum_base.specs.declared.packet.Packet.{Packet}
 use Rattle.plum_base.specs.declared.packet.PacketFault.TheVariants.{Magic, Version, Flags}
 use Rattle.plum_base.specs.Sites.{HasCode, AreCodesDistinct}
+use Rattle.plum_base.proofs.Coded.{listed_code}
 use Rattle.plum_packet.specs.Capture.{AreBytes}
 use Rattle.plum_packet.specs.Body.{HEADER, SAMPLE, number_at, signed_at, sample_at}
 use Rattle.plum_packet.specs.Body.{version_of, flags_of, code_of, key_of, count_of}
@@ -203,14 +204,6 @@ is_only_body stations packet code has body are is =
     split ∙ ap (λ (l : List ℕ). l ++ rest) header_is
     ∙ ap (λ (l : List ℕ). header_of code packet.key (length wave) ++ l) samples
 
--- the n-th station has the code
-pub code_at : (stations : List StationSite) (n code : ℕ) (d : StationSite) → HasCode stations n code
-    → (n < length stations) × ((get_or stations n d).code ≡ code)
-code_at [] n code d has = absurd has
-code_at (s ∷ rest) zero code d has = (omega arith, has)
-code_at (s ∷ rest) (suc n) code d has =
-    let later = code_at rest n code d has in (omega (arith, later.0), later.1)
-
 -- where codes are distinct, one station has it
 pub same_station : (stations : List StationSite) (n m code : ℕ)
     → AreCodesDistinct stations → HasCode stations n code
@@ -221,13 +214,13 @@ same_station stations n m code distinct some other =
       at = record { x = pos 0; y = pos 0 };
       factor = record { 0 = pos 0 };
     } in
-    let first = code_at stations n code d some in
-    let second = code_at stations m code d other in
+    let first = listed_code stations n code some in
+    let second = listed_code stations m code other in
     elim (cases_order n m) [
       | inl e ↦ e
       | inr apart ↦ elim apart [
-        | inl lt ↦ absurd (distinct n m d lt second.0 (first.1 ∙ sym second.1))
-        | inr gt ↦ absurd (distinct m n d gt first.0 (second.1 ∙ sym first.1))
+        | inl lt ↦ absurd (distinct n m d lt second.0 (first.1 d ∙ sym (second.1 d)))
+        | inr gt ↦ absurd (distinct m n d gt first.0 (second.1 d ∙ sym (first.1 d)))
       ]
     ]
 

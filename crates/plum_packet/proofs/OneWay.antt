@@ -1,28 +1,16 @@
 -- A capture decodes in one way.
-use Rattle.std.proofs.Common.{◌≡◌, ℕ, List, [], ◌∷◌, Ok, Err, refl, sym, ap, subst, ◌∙◌}
+use Rattle.std.proofs.Common.{◌≡◌, ℕ, List, Ok, Err, sym, ap, subst, ◌∙◌}
 use Rattle.std.proofs.Common.{length}
 use Rattle.std.specs.List.{AllZip}
 use Rattle.plum_base.specs.declared.sites.StationSite.{StationSite}
 use Rattle.plum_base.specs.Sites.{AreCodesDistinct}
+use Rattle.plum_base.proofs.Members.{each_one}
 use Rattle.plum_packet.specs.Laws.{DecodedInOneWay}
 use Rattle.plum_packet.specs.Segments.{Decoded, DecodesAs, IsDecodedSegment}
 use Rattle.plum_packet.specs.Segments.{segments_of}
 use Rattle.plum_packet.proofs.Captures.{only}
 use Rattle.plum_packet.proofs.FirstFault.{one_first}
 use Rattle.plum_packet.proofs.OneBody.{is_only_packet}
-
--- where each item is related to one other alone, so is each list
-same_zipped : {A B : Type 0} (R : A → B → Type 0) → ((x : A) (y z : B) → R x y → R x z → y ≡ z)
-    → (xs : List A) (ys zs : List B) → AllZip R xs ys → AllZip R xs zs → ys ≡ zs
-same_zipped R one [] [] [] some other = refl
-same_zipped R one [] [] (z ∷ zs) some other = absurd other
-same_zipped R one [] (y ∷ ys) zs some other = absurd some
-same_zipped R one (x ∷ xs) [] zs some other = absurd some
-same_zipped R one (x ∷ xs) (y ∷ ys) [] some other = absurd other
-same_zipped R one (x ∷ xs) (y ∷ ys) (z ∷ zs) some other =
-    let first = one x y z some.0 other.0 in
-    let later = same_zipped R one xs ys zs some.1 other.1 in
-    cc
 
 module _ (stations : List StationSite) (distinct : AreCodesDistinct stations) where
   -- a body decodes in one way
@@ -40,7 +28,7 @@ module _ (stations : List StationSite) (distinct : AreCodesDistinct stations) wh
   pub one_segment : (segment : List (ℕ × List ℕ)) (some other : List Decoded)
       → IsDecodedSegment stations segment some → IsDecodedSegment stations segment other
       → some ≡ other
-  one_segment segment some other = same_zipped _ one_body segment some other
+  one_segment segment some other = each_one _ one_body segment some other
 
 -- and a capture
 pub decoded : DecodedInOneWay
@@ -48,7 +36,7 @@ decoded stations capture some others tail other distinct a b =
     let same = only capture a.bodies b.bodies a.rest b.rest a.capture_is b.capture_is in
     let again = subst (λ bodies. AllZip (IsDecodedSegment stations) (segments_of bodies) others)
     (sym same.0) b.decoded in (
-      same_zipped _ (one_segment stations distinct) (segments_of a.bodies) some others a.decoded
+      each_one _ (one_segment stations distinct) (segments_of a.bodies) some others a.decoded
           again,
       a.tail_is ∙ ap length same.1 ∙ sym b.tail_is,
     )

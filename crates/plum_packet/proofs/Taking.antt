@@ -1,5 +1,5 @@
 -- A segment, body by body.
-use Rattle.std.proofs.Common.{◌≡◌, ◌≢◌, ℕ, ◌+◌, ◌<◌, ◌≤◌, zero, suc, List, [], ◌∷◌, ◌++◌, length}
+use Rattle.std.proofs.Common.{◌≡◌, ◌≢◌, ℕ, ◌+◌, ◌≤◌, List, [], ◌∷◌, ◌++◌, length}
 use Rattle.std.proofs.Common.{Option, Result, Ok, Err, refl, sym, ap, subst, ◌∙◌, arith}
 use Rattle.std.proofs.Common.{append-nil, append_assoc, ◌⊎◌, inl, inr}
 use Rattle.std.proofs.lemmas.List.Elements.{filter_map-append}
@@ -11,7 +11,6 @@ use Rattle.plum_base.specs.declared.packet.Packet.{Packet}
 use Rattle.plum_base.specs.declared.packet.PacketFault.{PacketFault}
 use Rattle.plum_base.specs.declared.packet.RefusedBody.{RefusedBody}
 use Rattle.plum_base.specs.declared.sites.StationSite.{StationSite}
-use Rattle.plum_base.specs.Sites.{HasCode}
 use Rattle.plum_packet.specs.declared.segment.Segment.{Segment}
 use Rattle.plum_packet.specs.declared.records.Progress.TheVariants.{Open, Ended}
 use Rattle.plum_packet.specs.declared.records.RecordsFault.{RecordsFault}
@@ -25,13 +24,6 @@ use Rattle.plum_packet.specs.Segments.{SEGMENT_BODIES, Decoded}
 use Rattle.plum_packet.specs.Segments.{DecodesAs, IsDecodedSegment, packets_in, refused_in}
 use Rattle.plum_packet.proofs.Captures.{no_more_records}
 use Rattle.plum_packet.proofs.Cuts.{cut_at_mark, cut_where_full, cut_within, cut_at_end}
-
--- a station that has a code is listed
-pub is_listed : (stations : List StationSite) (n code : ℕ) → HasCode stations n code
-    → n < length stations
-is_listed [] n code has = absurd has
-is_listed (s ∷ stations) zero code has = omega arith
-is_listed (s ∷ stations) (suc n) code has = omega (arith, is_listed stations n code has)
 
 -- each body decodes as a packet or is refused
 pub all_decoded : (segment : List Decoded)

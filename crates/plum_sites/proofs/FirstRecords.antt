@@ -6,7 +6,7 @@ use Rattle.plum_sites.specs.declared.fault.SiteFault.{SiteFault}
 use Rattle.plum_sites.specs.declared.fault.SitesRefusal.{SitesRefusal}
 use Rattle.plum_sites.specs.declared.fault.SitesRefusal.TheVariants as refusals
 use Rattle.plum_sites.specs.Files.{IfFault, StateSites, HasFault}
-use Rattle.plum_sites.proofs.Each.{each_length}
+use Rattle.std.proofs.lemmas.Slice.Zip.{AllZip-long}
 
 -- what follows of the fault of a refusal
 pub if_fault : (e : SitesRefusal) (P Q : SiteFault → Type 0)
@@ -63,6 +63,6 @@ pub sites_of_first : {X : Type 0} (header : List (List ℕ)) (States : List (Lis
 sites_of_first header States AreLawful first rest wanted sites fewer (inl none) stated =
     subst (λ rows. StateSites header States AreLawful rows sites) (all_rows first rest none) stated
 sites_of_first header States AreLawful first rest wanted sites fewer (inr enough) stated =
-    let size = each_length States stated.0 sites stated.2 in
+    let size = AllZip-long States stated.0 sites stated.2 in
     let whole = ap length stated.1 in
     absurd (omega arith)

@@ -2,7 +2,6 @@ pub mod Digits
 pub mod TheRecords
 pub mod FirstRecords
 pub mod Rows
-pub mod Each
 pub mod Positions
 pub mod MoreStations
 pub mod MoreTargets

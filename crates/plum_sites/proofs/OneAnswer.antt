@@ -10,7 +10,8 @@ use Rattle.plum_sites.specs.declared.fault.SiteFault.TheVariants as faults
 use Rattle.std.specs.List.{AllZip}
 use Rattle.plum_sites.specs.Files.{StateSites, HasRowFault, HasFault, AreSitesOf, IsFaultOf}
 use Rattle.plum_sites.specs.Laws.{HasOneAnswer}
-use Rattle.plum_sites.proofs.OneReading.{one_file, each_one}
+use Rattle.plum_base.proofs.Members.{each_one}
+use Rattle.plum_sites.proofs.OneReading.{one_file}
 use Rattle.plum_sites.proofs.SomeAnswer.{IsDecided, some_answer}
 
 -- the fault of a row that keeps each rule above it, and not its own

@@ -58,19 +58,6 @@ one_number field ds es n m sd se (inr a) (inr b) =
 pub spells_one : (field : List ℕ) (n m : ℤ) → Spells field n → Spells field m → n ≡ m
 spells_one field n m a b = one_number field a.0 b.0 n m a.1 b.1 a.2 b.2
 
-pub each_one : {X Y : Type 0} (R : X → Y → Type 0)
-    → ((x : X) (y z : Y) → R x y → R x z → y ≡ z)
-    → (xs : List X) (ys zs : List Y) → AllZip R xs ys → AllZip R xs zs → ys ≡ zs
-each_one R one [] [] [] a b = refl
-each_one R one [] [] (z ∷ zs) a b = absurd b
-each_one R one [] (y ∷ ys) zs a b = absurd a
-each_one R one (x ∷ xs) [] zs a b = absurd a
-each_one R one (x ∷ xs) (y ∷ ys) [] a b = absurd b
-each_one R one (x ∷ xs) (y ∷ ys) (z ∷ zs) a b =
-    let first : y ≡ z = one x y z a.0 b.0 in
-    let rest : ys ≡ zs = each_one R one xs ys zs a.1 b.1 in
-    cc
-
 pub each_number : (row : List (List ℕ)) (ns : List ℤ) → AllZip Spells row ns → All IsNumber row
 each_number [] ns each k d l = absurd (omega arith)
 each_number (x ∷ row) [] each k d l = absurd each

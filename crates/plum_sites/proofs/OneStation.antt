@@ -8,6 +8,7 @@ use Rattle.plum_base.specs.declared.numbers.Tenths.{Tenths}
 use Rattle.plum_base.specs.declared.sites.StationSite.{StationSite}
 use Rattle.plum_base.specs.Levels.{IsFactor}
 use Rattle.plum_base.specs.Sites.{IsPlace, CODES, AreStations}
+use Rattle.plum_base.proofs.Members.{each_one}
 use Rattle.plum_sites.specs.declared.fault.SiteFault.{SiteFault}
 use Rattle.plum_sites.specs.declared.fault.SiteFault.TheVariants as faults
 use Rattle.plum_sites.specs.Fields.{Spells, IsNumber}
@@ -21,8 +22,8 @@ use Rattle.plum_sites.proofs.Known.{four_numbers}
 use Rattle.plum_sites.proofs.MoreStations.{stations_more}
 use Rattle.plum_sites.proofs.SameNumbers.{same_point, same_tenths}
 use Rattle.plum_sites.proofs.SomeAnswer.{IsDecided}
-use Rattle.plum_sites.proofs.Each.{each_length}
-use Rattle.plum_sites.proofs.OneReading.{spells_one, each_one, each_number}
+use Rattle.std.proofs.lemmas.Slice.Zip.{AllZip-long}
+use Rattle.plum_sites.proofs.OneReading.{spells_one, each_number}
 use Rattle.plum_sites.proofs.OneAnswer.{Breaks, breaks_one, fresh_before, IsFormat, one_answer}
 
 abbrev station : ℕ → Point → Tenths → StationSite
@@ -77,7 +78,7 @@ Fresh before row =
 numbers_of : (row : List (List ℕ)) (code x y factor : ℤ)
     → AllZip Spells row (code ∷ x ∷ y ∷ factor ∷ []) → Numbers row
 numbers_of row code x y factor spelled = (
-  each_length Spells row (code ∷ x ∷ y ∷ factor ∷ []) spelled,
+  sym (AllZip-long Spells row (code ∷ x ∷ y ∷ factor ∷ []) spelled),
   each_number row (code ∷ x ∷ y ∷ factor ∷ []) spelled,
 )
 
@@ -164,7 +165,7 @@ by_numbers before row n code x y factor lawful spells =
 by_row : (before : List StationSite) (row : List (List ℕ)) (n : ℕ) (ns : List ℤ)
     → AreStations before → length row ≡ 4 → AllZip Spells row ns → Decided before row n
 by_row before row n ns lawful four spells =
-    let same = each_length Spells row ns spells in
+    let same = AllZip-long Spells row ns spells in
     let is = four_numbers row ns (omega (arith, four, same)) spells in
     by_numbers before row n is.0 is.1 is.2 is.3 lawful is.4
 

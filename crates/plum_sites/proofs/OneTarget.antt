@@ -11,6 +11,7 @@ use Rattle.plum_base.specs.declared.numbers.Tenths.{Tenths}
 use Rattle.plum_base.specs.declared.sites.TargetSite.{TargetSite}
 use Rattle.plum_base.specs.Levels.{IsFactor}
 use Rattle.plum_base.specs.Sites.{IsPlace, AreTargets, areas_of, first_appearances}
+use Rattle.plum_base.proofs.Members.{each_one}
 use Rattle.plum_sites.specs.declared.fault.SiteFault.{SiteFault}
 use Rattle.plum_sites.specs.declared.fault.SiteFault.TheVariants as faults
 use Rattle.plum_sites.specs.Fields.{Spells, IsNumber}
@@ -24,8 +25,8 @@ use Rattle.plum_sites.proofs.Known.{three_numbers}
 use Rattle.plum_sites.proofs.MoreTargets.{targets_more}
 use Rattle.plum_sites.proofs.SameNumbers.{same_point, same_tenths}
 use Rattle.plum_sites.proofs.SomeAnswer.{IsDecided}
-use Rattle.plum_sites.proofs.Each.{each_length}
-use Rattle.plum_sites.proofs.OneReading.{spells_one, each_one, each_number}
+use Rattle.std.proofs.lemmas.Slice.Zip.{AllZip-long}
+use Rattle.plum_sites.proofs.OneReading.{spells_one, each_number}
 use Rattle.plum_sites.proofs.OneAnswer.{Breaks, breaks_one, fresh_before, IsFormat, one_answer}
 
 abbrev target : List ℕ → List ℕ → Point → Tenths → TargetSite
@@ -89,7 +90,7 @@ numbers_of : (row : List (List ℕ)) (name area : List ℕ) (x y factor : ℤ)
     → Numbers row
 numbers_of row name area x y factor named spelled =
     let two = ap length named in
-    let three = each_length Spells (drop 2 row) (x ∷ y ∷ factor ∷ []) spelled in
+    let three = AllZip-long Spells (drop 2 row) (x ∷ y ∷ factor ∷ []) spelled in
     let five : length row ≡ 5 = omega (arith, two, three, length-take 2 row, length-drop 2 row) in
     (five, each_number (drop 2 row) (x ∷ y ∷ factor ∷ []) spelled)
 
@@ -221,7 +222,7 @@ by_row : (before : List TargetSite) (row : List (List ℕ)) (n : ℕ) (ns : List
     → AreTargets before → length row ≡ 5 → AllZip Spells (drop 2 row) ns → Decided before row n
 by_row before row n ns lawful five spells =
     let names = first_two row five in
-    let same = each_length Spells (drop 2 row) ns spells in
+    let same = AllZip-long Spells (drop 2 row) ns spells in
     let is = three_numbers (drop 2 row) ns (omega (arith, five, same, length-drop 2 row)) spells in
     by_fields before row n names.0 names.1 is.0 is.1 is.2 lawful names.2 is.3
 

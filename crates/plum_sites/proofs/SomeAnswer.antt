@@ -6,7 +6,7 @@ use Rattle.std.specs.List.{AllZip}
 use Rattle.plum_sites.specs.declared.fault.SiteFault.{SiteFault}
 use Rattle.plum_sites.specs.declared.fault.SiteFault.TheVariants as faults
 use Rattle.plum_sites.specs.Files.{StateSites, HasRowFault, HasFault, AreSitesOf, IsFaultOf}
-use Rattle.plum_sites.proofs.Each.{each_push}
+use Rattle.std.proofs.lemmas.Slice.Zip.{all_zipped_more}
 use Rattle.plum_sites.proofs.Known.{known_rows}
 use Rattle.plum_sites.proofs.TheRecords.{some_records}
 
@@ -40,7 +40,8 @@ read_on States AreLawful IsFirstFault next before (row ∷ rest) sites stated la
       | inl more ↦
           subst (IsRead States AreLawful IsFirstFault) (append_assoc before (row ∷ []) rest)
           (read_on States AreLawful IsFirstFault next (before ++ row ∷ []) rest
-          (sites ++ more.0 ∷ []) (each_push States before sites row more.0 stated more.1) more.2)
+          (sites ++ more.0 ∷ [])
+          (all_zipped_more States before sites row more.0 stated more.1) more.2)
       | inr wrong ↦
           inr (wrong.0, (before, row, rest, sites, refl, stated, lawful, wrong.1))
     ]

@@ -1,5 +1,5 @@
 -- The lines of a journal tell its notes.
-use Rattle.std.proofs.Common.{◌≡◌, ◌≢◌, ℕ, ◌+◌, ◌<◌, Bool, List, [], ◌∷◌, ◌++◌, length, get_or, map}
+use Rattle.std.proofs.Common.{◌≡◌, ◌≢◌, ℕ, ◌+◌, ◌<◌, Bool, List, [], ◌∷◌, length, get_or, map}
 use Rattle.std.proofs.Common.{All, Option, inl, inr, refl, sym, ap, ◌∙◌, arith}
 use Rattle.std.proofs.lemmas.Bool.{cases_lt}
 use Rattle.std.proofs.lemmas.List.Elements.{recursion_from_All}
@@ -12,6 +12,7 @@ use Rattle.plum_base.specs.declared.numbers.Tenths.{Tenths}
 use Rattle.plum_base.specs.declared.sites.StationSite.{StationSite}
 use Rattle.plum_base.specs.Sites.{AreCodesDistinct}
 use Rattle.plum_base.specs.Note.{note_of}
+use Rattle.plum_base.proofs.Members.{All-both}
 use Rattle.plum_text.specs.Texts.{code_in, code_of_station, line_of_note, lines_from}
 use Rattle.plum_text.specs.Texts.{notes_from}
 
@@ -82,12 +83,6 @@ module _ (stations : List StationSite) (distinct : AreCodesDistinct stations) wh
       let later = one_list (n + 1) notes others ln.1 lo.1 rest in
       cc
 
--- what holds of two lists holds of both after one another
-joined : {X : Type 0} (P : X → Type 0) (xs ys : List X) → AllByRecursion P xs → AllByRecursion P ys
-    → AllByRecursion P (xs ++ ys)
-joined P [] ys px py = py
-joined P (x ∷ xs) ys px py = (px.0, joined P xs ys px.1 py)
-
 -- This entry's station is listed.
 abbrev Has : List StationSite → Entry → Type 0
 Has stations e = e.station.0 < length stations
@@ -104,7 +99,7 @@ listed_parts : (stations : List StationSite) (segment : ℕ) (parts : List (List
     → AllByRecursion (IsListed stations) (notes_from segment parts)
 listed_parts stations segment [] are = tt
 listed_parts stations segment (part ∷ parts) are =
-    joined (IsListed stations) (map (λ e. (segment, note_of e)) part)
+    All-both (IsListed stations) (map (λ e. (segment, note_of e)) part)
     (notes_from (segment + 1) parts)
     (listed_part stations segment part (recursion_from_All (Has stations) part are.0))
     (listed_parts stations (segment + 1) parts are.1)

@@ -1,5 +1,5 @@
 use Rattle.std.proofs.Common.{Ok, Err, refl, ap}
-use Rattle.plum_packet.proofs.Taking.{is_listed}
+use Rattle.plum_base.proofs.Coded.{listed_code}
 use Rattle.plum_packet.proofs.bodies.found_in.Goals as goal
 
 pub returns-in-Ok-clause-body : goal.returns-in-Ok-clause-body
@@ -7,7 +7,7 @@ returns-in-Ok-clause-body c = (Ok c.in-Ok.packet, c.in-Ok.ensures.packet, refl)
 
 pub returns-in-Ok-clause-listed : goal.returns-in-Ok-clause-listed
 returns-in-Ok-clause-listed c =
-    is_listed c.args.sites.now.stations _ _ c.in-Ok.ensures.packet.station
+    (listed_code c.args.sites.now.stations _ _ c.in-Ok.ensures.packet.station).0
 
 pub returns-in-Err-Packet-clause-body : goal.returns-in-Err-Packet-clause-body
 returns-in-Err-Packet-clause-body c =

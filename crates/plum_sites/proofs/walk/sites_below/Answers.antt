@@ -4,7 +4,7 @@ use Rattle.std.proofs.lemmas.List.{length_push}
 use Rattle.std.proofs.lemmas.Result.{err_from_is_err_and}
 use Rattle.csv.specs.Records.{fields_of}
 use Rattle.plum_sites.specs.Files.{HasRowFault}
-use Rattle.plum_sites.proofs.Each.{each_push}
+use Rattle.std.proofs.lemmas.Slice.Zip.{all_zipped_more}
 use Rattle.plum_sites.proofs.FirstRecords.{if_fault}
 use Rattle.plum_sites.proofs.Positions.{map_more, map_split, length_before}
 use Rattle.plum_sites.proofs.walk.sites_below.Goals as goal
@@ -56,7 +56,7 @@ loop-i-preserved g c =
     let more = map_more fields_of rows i row c.loop-i-test.true c.index-rows-i.is in
     let site = c.in_ok-add.ensures.site in
     record {
-      stated = rw (more, site.2) (each_push kind.states (map fields_of (take i rows))
+      stated = rw (more, site.2) (all_zipped_more kind.states (map fields_of (take i rows))
           (kind.sites c.loop-i.sites) (fields_of row) site.0 c.loop-i.invariant.stated site.1);
       sound = c.in_ok-add.ensures.sound;
       count = ap length site.2 ∙ length_push (kind.sites c.loop-i.sites) site.0

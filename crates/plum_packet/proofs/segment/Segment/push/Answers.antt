@@ -1,6 +1,6 @@
 use Rattle.std.proofs.Common.{◌<◌, length, Ok, Err, append-nil, sym, ap}
 use Rattle.std.proofs.lemmas.List.Elements.{All-push}
-use Rattle.plum_packet.proofs.Taking.{is_listed}
+use Rattle.plum_base.proofs.Coded.{listed_code}
 use Rattle.plum_packet.proofs.segment.Segment.push.Goals as goal
 
 pub returns-in_ok-push-in-Ok-clause-body : goal.returns-in_ok-push-in-Ok-clause-body
@@ -16,10 +16,10 @@ returns-in_ok-push-in-Ok-clause-body c = (
 pub returns-in_ok-push-in-Ok-clause-listed : goal.returns-in_ok-push-in-Ok-clause-listed
 returns-in_ok-push-in-Ok-clause-listed c =
     let stations = c.args.sites.now.stations in
-    let listed = is_listed stations _ _ c.in-Ok.ensures.packet.station in
+    let listed = listed_code stations _ _ c.in-Ok.ensures.packet.station in
     λ before. rw c.in_ok-push-in-Ok.ensures.items
     (All-push (λ p. p.station.0 < length stations) c.args.self.now.packets.items c.in-Ok.packet
-    before listed)
+    before listed.0)
 
 pub returns-in_ok-push-in-Err-Packet-clause-body :
     goal.returns-in_ok-push-in-Err-Packet-clause-body
