@@ -4,7 +4,7 @@ use Rattle.std.proofs.Common.{◌++◌, length, filter, Option, Some, refl, sym,
 use Rattle.std.proofs.Common.{arith, append-nil, append_assoc}
 use Rattle.std.proofs.lemmas.List.Elements.{filter-append}
 use Rattle.std.specs.List.{last_or}
-use Rattle.std.specs.Prelude.{slice_get}
+use Rattle.std.specs.Prelude.{slice_get, zip}
 
 module _ {X : Type 0} where
   -- what holds of no element, and of one more at the end, holds of each list
@@ -51,3 +51,12 @@ module _ {X : Type 0} where
     | inl (below, here) ↦ inl (omega arith, here)
     | inr (end, here) ↦ inr (omega arith, here)
   ]
+
+-- two lists of one length beside each other
+pub zip-push : {X Y : Type 0} (xs : List X) (ys : List Y) (x : X) (y : Y) → length ys ≡ length xs
+    → zip (xs ++ x ∷ []) (ys ++ y ∷ []) ≡ zip xs ys ++ (x, y) ∷ []
+zip-push [] [] x y long = refl
+zip-push [] (b ∷ ys) x y long = absurd (omega arith)
+zip-push (a ∷ xs) [] x y long = absurd (omega arith)
+zip-push (a ∷ xs) (b ∷ ys) x y long =
+    ap (λ l. (a, b) ∷ l) (zip-push xs ys x y (omega arith))

@@ -12,11 +12,11 @@ use Rattle.plum_base.specs.declared.packet.Packet.{Packet}
 use Rattle.plum_base.specs.declared.setup.Setup.{Setup}
 use Rattle.plum_base.specs.Lane.{lane_of}
 use Rattle.plum_seq.specs.Keys.{of_station, is_above_all, is_kept, kept_after, kept}
+use Rattle.plum_seq.specs.Keys.{kept_in_segments_after}
 use Rattle.plum_seq.specs.Laws.{KeptJoins, RepeatLeaves, KeptInParts}
 use Rattle.plum_core.specs.History.{packet_of, IsValidHistory}
 use Rattle.plum_core.specs.Laws.{PacketsOfLane, KeptIsByLane}
-use Rattle.plum_core.specs.Transcript.{kept_in_segments_after, of_lane, HoldsByLane}
-use Rattle.plum_core.specs.Transcript.{HoldsKeptByLane}
+use Rattle.plum_core.specs.Transcript.{of_lane, HoldsByLane, HoldsKeptByLane}
 use Rattle.plum_core.proofs.Lanes.{packets_of_lane, of_station-lane}
 
 -- No packet is kept of none.

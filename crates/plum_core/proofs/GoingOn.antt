@@ -2,7 +2,7 @@
 use Rattle.std.proofs.Common.{◌≡◌, ℕ, zero, suc, ◌+◌, ◌-◌, ◌<◌, ◌≤◌, ◌⊎◌, List, [], ◌∷◌, ◌++◌}
 use Rattle.std.proofs.Common.{length}
 use Rattle.std.proofs.Common.{map, take, Some, inl, inr, refl, sym, ◌∙◌, ap, subst, arith}
-use Rattle.std.proofs.Common.{append-nil, append_assoc, length-append}
+use Rattle.std.proofs.Common.{length-append}
 use Rattle.std.proofs.lemmas.List.{append_cancel_left, map-append, flat_map_more, take-append-le}
 use Rattle.std.proofs.lemmas.List.{take_all, length_push, length-take-le}
 use Rattle.std.proofs.lemmas.List.Elements.{All-nil, All-push, All-take}
@@ -15,16 +15,16 @@ use Rattle.plum_base.specs.declared.entry.Entry.{Entry}
 use Rattle.plum_base.specs.declared.packet.Packet.{Packet}
 use Rattle.plum_base.specs.declared.setup.Setup.{Setup}
 use Rattle.plum_base.specs.Sites.{SitesView, areas_of, targets_of}
-use Rattle.plum_seq.specs.Keys.{kept_after, kept}
+use Rattle.plum_seq.specs.Keys.{kept_after, kept, kept_in_segments_after, kept_in_segments}
 use Rattle.plum_seq.specs.Laws.{KeptInParts}
 use Rattle.plum_core.specs.History.{packet_of, IsValidHistory, HoldsKept}
 use Rattle.plum_core.specs.Laws.{LegalAtStart, OverIsFrom, PartAdds, OnePartEach}
 use Rattle.plum_core.specs.Transcript.{Transcript, entries_up_to, journal_of, IsReadingAt}
-use Rattle.plum_core.specs.Transcript.{kept_in_segments_after, kept_in_segments}
 use Rattle.plum_core.specs.Transcript.{HoldsByLane, ArePredictions, IsReadingOver, IsReadingFrom}
 use Rattle.plum_core.specs.Transcript.{AreReadingsFrom}
 use Rattle.plum_core.specs.Transcript.{with_part, with_readings, IsLegalOver}
 use Rattle.plum_base.proofs.Pushes.{slice_get-cases}
+use Rattle.plum_seq.proofs.Segments.{length-kept_in_segments, kept_in_segments-push}
 use Rattle.plum_core.proofs.Joining.{IsValidHistory-nil}
 use Rattle.plum_core.proofs.Lists.{slice_get-take, beside}
 
@@ -54,31 +54,14 @@ front_grows (suc n) (xs ∷ xss) yss =
       length-append xs (joined (take n (xss ++ yss))),
     )
 
--- the kept packets of one segment more, which come after those of the others
-kept_in_segments-push : (earlier : List Packet) (segments : List (List Packet))
-    (segment : List Packet)
-    → kept_in_segments_after earlier (segments ++ segment ∷ [])
-    ≡ kept_in_segments_after earlier segments
-    ++ kept_after (earlier ++ joined segments) segment ∷ []
-kept_in_segments-push earlier [] segment =
-    ap (λ before. kept_after before segment ∷ []) (sym (append-nil earlier))
-kept_in_segments-push earlier (first ∷ segments) segment =
-    let rest = kept_in_segments_after (earlier ++ first) segments in
-    ap (λ others. kept_after earlier first ∷ others)
-    (kept_in_segments-push (earlier ++ first) segments segment
-    ∙ ap (λ before. rest ++ kept_after before segment ∷ [])
-    (append_assoc earlier first (joined segments)))
-
 -- so many parts as segments
 length-parts : (lanes : ℕ) (earlier : List Packet) (segments : List (List Packet))
     (parts : List (List Entry))
     → AllZip (HoldsByLane lanes) parts (kept_in_segments_after earlier segments)
     → length parts ≡ length segments
-length-parts lanes earlier [] [] zip = refl
-length-parts lanes earlier [] (part ∷ parts) zip = absurd zip
-length-parts lanes earlier (segment ∷ segments) [] zip = absurd zip
-length-parts lanes earlier (segment ∷ segments) (part ∷ parts) zip =
-    ap suc (length-parts lanes (earlier ++ segment) segments parts zip.1)
+length-parts lanes earlier segments parts zip =
+    sym (AllZip-long (HoldsByLane lanes) parts (kept_in_segments_after earlier segments) zip)
+    ∙ length-kept_in_segments earlier segments
 
 -- What joins a history of the kept packets is the kept ones of what comes after.
 pub kept_part : KeptInParts → (history part : List Entry) (earlier packets : List Packet)

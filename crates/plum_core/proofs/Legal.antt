@@ -5,10 +5,10 @@ use Rattle.std.specs.List.{flat_map, AllZip}
 use Rattle.plum_base.specs.declared.entry.Entry.{Entry}
 use Rattle.plum_base.specs.declared.packet.Packet.{Packet}
 use Rattle.plum_base.specs.Lane.{lane_of}
-use Rattle.plum_seq.specs.Keys.{of_station, kept_after}
+use Rattle.plum_seq.specs.Keys.{of_station, kept_after, kept_in_segments_after}
 use Rattle.plum_seq.specs.Laws.{KeptInParts}
 use Rattle.plum_core.specs.History.{packet_of, packets_of}
-use Rattle.plum_core.specs.Transcript.{kept_in_segments_after, HoldsByLane}
+use Rattle.plum_core.specs.Transcript.{HoldsByLane}
 use Rattle.plum_core.proofs.Lanes.{of_station-lane}
 use Rattle.plum_core.proofs.Stations.{of_station-append}
 

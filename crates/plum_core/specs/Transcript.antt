@@ -12,7 +12,7 @@ use Rattle.plum_base.specs.declared.sites.StationSite.{StationSite}
 use Rattle.plum_base.specs.declared.sites.TargetSite.{TargetSite}
 use Rattle.plum_base.specs.Sites.{SitesView, areas_of, targets_of}
 use Rattle.plum_base.specs.Lane.{lane_of}
-use Rattle.plum_seq.specs.Keys.{kept_after}
+use Rattle.plum_seq.specs.Keys.{kept_in_segments}
 use Rattle.plum_geo.specs.Prediction.{IsPredictionOver}
 use Rattle.plum_core.specs.History.{packet_of, entries_of_lane, IsValidHistory, HoldsKept}
 
@@ -39,17 +39,6 @@ pub record IsReadingAt (t : Transcript) (m a : ℕ) (reading : Reading) : Type 0
   pub of_mark : List Reading
   pub mark : slice_get t.readings (m - 1) ≡ Some of_mark
   pub area : slice_get of_mark a ≡ Some reading
-
--- the kept packets of each of these segments, which come after earlier packets
-abbrev pub kept_in_segments_after : List Packet → List (List Packet) → List (List Packet)
-kept_in_segments_after earlier [] = []
-kept_in_segments_after earlier (segment ∷ segments) =
-    kept_after earlier segment ∷ kept_in_segments_after (earlier ++ segment) segments
-
--- the kept packets of each segment; each packet is compared with all earlier ones of its station,
--- in whatever segment
-abbrev pub kept_in_segments : List (List Packet) → List (List Packet)
-kept_in_segments segments = kept_in_segments_after [] segments
 
 -- the packets of a lane, where there are so many lanes
 abbrev pub of_lane : ℕ → ℕ → List Packet → List Packet

@@ -21,7 +21,8 @@ use Rattle.plum_core.specs.Engine.{IsValueOf}
 use Rattle.plum_packet.specs.Segments.{Decoded, packets_in}
 use Rattle.plum_packet.proofs.Counted.{few_kept}
 use Rattle.plum_core.specs.History.{packet_of, IsEntryAfter, IsValidHistory}
-use Rattle.plum_core.specs.Transcript.{HoldsByLane, kept_in_segments_after}
+use Rattle.plum_core.specs.Keys.{kept_in_segments_after}
+use Rattle.plum_core.specs.Transcript.{HoldsByLane}
 use Rattle.plum_base.specs.Packet.{FitsKey}
 use Rattle.plum_text.specs.Fields.{Fits, FitsValue}
 use Rattle.plum_text.specs.Laws.{CanBeTold}

@@ -1,7 +1,7 @@
 -- Which packets are kept, and which of these start a new run (the project's own rule of keys).
 use Rattle.std.specs.Prelude.{◌≡◌, ◌+◌, Bool, true, false, not, ◌&&◌, ◌||◌, ◌==◌, nat_lt}
-use Rattle.std.specs.Prelude.{if◌then◌else◌, ℕ, List, [], ◌++◌, map, filter, take, fold, Option}
-use Rattle.std.specs.Prelude.{Some, None, All, Any}
+use Rattle.std.specs.Prelude.{if◌then◌else◌, ℕ, List, [], ◌∷◌, ◌++◌, map, filter, take, fold}
+use Rattle.std.specs.Prelude.{Option, Some, None, All, Any}
 use Rattle.std.specs.List.{list_all, enumerate_from}
 use Rattle.plum_base.specs.declared.numbers.Key.{Key}
 use Rattle.plum_base.specs.declared.packet.Packet.{Packet}
@@ -37,6 +37,17 @@ kept_after earlier packets =
 -- the kept ones of packets of whatever stations, each by those before it
 abbrev pub kept : List Packet → List Packet
 kept packets = kept_after [] packets
+
+-- the kept packets of each of these segments, which come after earlier packets
+abbrev pub kept_in_segments_after : List Packet → List (List Packet) → List (List Packet)
+kept_in_segments_after earlier [] = []
+kept_in_segments_after earlier (segment ∷ segments) =
+    kept_after earlier segment ∷ kept_in_segments_after (earlier ++ segment) segments
+
+-- the kept packets of each segment; each packet is compared with all earlier ones of its station,
+-- in whatever segment
+abbrev pub kept_in_segments : List (List Packet) → List (List Packet)
+kept_in_segments segments = kept_in_segments_after [] segments
 
 -- the greater of a key and of one that may be none
 abbrev pub greater_key : Option Key → Key → Option Key

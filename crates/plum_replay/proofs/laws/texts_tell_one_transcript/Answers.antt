@@ -3,7 +3,8 @@ use Rattle.std.specs.List.{AllZip}
 use Rattle.plum_base.specs.declared.answers.Reading.{Reading}
 use Rattle.plum_base.specs.declared.entry.Entry.{Entry}
 use Rattle.plum_packet.specs.Segments.{Decoded, packets_in}
-use Rattle.plum_core.specs.Transcript.{Transcript, HoldsByLane, kept_in_segments}
+use Rattle.plum_core.specs.Keys.{kept_in_segments}
+use Rattle.plum_core.specs.Transcript.{Transcript, HoldsByLane}
 use Rattle.plum_text.specs.Texts.{Section}
 use Rattle.plum_replay.specs.Replayed.{IsReplay}
 use Rattle.plum_replay.proofs.SameEntries.{same_parts}
