@@ -84,7 +84,8 @@ module _ (stations : List StationSite) (distinct : AreCodesDistinct stations) wh
       → IsPrefix begun (bodies_of later)
   open_decoded so_far more others begun [] is all = absurd all
   open_decoded so_far more others begun (segment ∷ later) is all =
-      let front = front_zipped _ (one_body stations distinct) so_far more begun segment is all.0 in (
+      let own = one_body stations distinct in
+      let front = front_zipped _ own so_far more begun segment is all.0 in (
         front.0 ++ bodies_of later,
         sym (append_assoc begun front.0 (bodies_of later))
             ∙ ap (λ l. l ++ bodies_of later) (sym front.1),

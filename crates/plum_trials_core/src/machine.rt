@@ -178,7 +178,8 @@ fn lanes_and_areas(rt: HostRuntime) -> Result<(), Fail> {
         "Appended",
         "Read(Reading { front: 1, answers: Answers { items: [None, Some(Tenths(22))] } })",
         "Published(2)",
-        "Read(Reading { front: 2, answers: Answers { items: [Some(Tenths(21)), Some(Tenths(22))] } })",
+        "Read(Reading { front: 2, answers: Answers { items: [Some(Tenths(21)), \
+            Some(Tenths(22))] } })",
     ];
     expect_replies(&rt, alloc, &sites, &setup, events, &wanted)
 }
