@@ -43,7 +43,7 @@ sum_by-zero (x ∷ xs) = omega (arith, sum_by-cons (λ _. 0) x xs, sum_by-zero x
 
 -- ---- which number it is
 
-abbrev is_it : ℕ → ℕ → ℕ
+abbrev pub is_it : ℕ → ℕ → ℕ
 is_it k n = cond (k == n) 1 0
 
 -- of numbers above it none,
@@ -78,34 +78,35 @@ one_within k a (suc n) from within = elim (ℕ_discrete k a) [
       )
 ]
 
--- ---- a list, each member of which has a number below n
+-- ---- a list, each member of which has a number
 
-module _ {X : Type 0} (number : X → ℕ) (n : ℕ) (below : (x : X) → number x < n) where
+module _ {X : Type 0} (number : X → ℕ) where
   -- how many members have this number
-  abbrev having : ℕ → List X → ℕ
+  abbrev pub having : ℕ → List X → ℕ
   having k xs = length (filter (λ x. number x == k) xs)
 
-  having-cons : (k : ℕ) (x : X) (xs : List X)
+  pub having-cons : (k : ℕ) (x : X) (xs : List X)
       → having k (x ∷ xs) ≡ is_it (number x) k + having k xs
   having-cons k x xs =
       let test : X → Bool = λ x. number x == k in
       length-filter test (x ∷ xs) ∙ sum_by-cons (λ y. cond (test y) 1 0) x xs
       ∙ ap (λ m. is_it (number x) k + m) (sym (length-filter test xs))
 
-  -- Those of each number are all of them together.
-  pub counted_by : (xs : List X) → length xs ≡ sum_by (λ k. having k xs) (range_with_len 0 n)
-  counted_by [] = sym (sum_by-zero (range_with_len 0 n))
-  counted_by (x ∷ xs) =
-      let all : List ℕ = range_with_len 0 n in
-      let less = below x in
-      omega (
-        arith,
-        counted_by xs,
-        one_within (number x) 0 n (omega arith) (omega arith),
-        sum_by-both (is_it (number x)) (λ k. having k xs) all,
-        sum_by-same (λ k. having k (x ∷ xs)) (λ k. is_it (number x) k + having k xs) all
-            (λ k. having-cons k x xs),
-      )
+  module _ (n : ℕ) (below : (x : X) → number x < n) where
+    -- Where all numbers are below n, those of each number are all of them together.
+    counted_by : (xs : List X) → length xs ≡ sum_by (λ k. having k xs) (range_with_len 0 n)
+    counted_by [] = sym (sum_by-zero (range_with_len 0 n))
+    counted_by (x ∷ xs) =
+        let all : List ℕ = range_with_len 0 n in
+        let less = below x in
+        omega (
+          arith,
+          counted_by xs,
+          one_within (number x) 0 n (omega arith) (omega arith),
+          sum_by-both (is_it (number x)) (λ k. having k xs) all,
+          sum_by-same (λ k. having k (x ∷ xs)) (λ k. is_it (number x) k + having k xs) all
+              (λ k. having-cons k x xs),
+        )
 
 module _ (setup : Setup) where
   -- how many packets there are of each lane

@@ -85,7 +85,7 @@ nothing_legal setup sites = record {
 }
 
 -- no more at a mark than in the whole journal
-mark_within : (m : ℕ) (t : Transcript) → length (entries_up_to m t) ≤ length (journal_of t)
+pub mark_within : (m : ℕ) (t : Transcript) → length (entries_up_to m t) ≤ length (journal_of t)
 mark_within m t = front_within m t.parts
 
 -- Readings over the whole journal are readings over fronts of it.

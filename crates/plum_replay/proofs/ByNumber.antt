@@ -3,6 +3,7 @@ use Rattle.std.proofs.Common.{◌≡◌, ℕ, ◌+◌, ◌<◌, ◌≤◌, ◌==
 use Rattle.std.proofs.Common.{filter, inl, inr, refl, sym, ap, ◌∙◌, subst, arith}
 use Rattle.std.proofs.lemmas.Bool.{cases_Bool, eq-eqb, eqb-true}
 use Rattle.std.specs.List.{AllByRecursion}
+use Rattle.plum_core.proofs.Counted.{is_it, having, having-cons}
 use Rattle.plum_text.proofs.OneArea.{cons_same}
 
 module _ {X : Type 0} (number : X → ℕ) where
@@ -60,21 +61,9 @@ module _ {X : Type 0} (number : X → ℕ) where
       let first = subst (AllByRecursion P) (with_first k x xs refl) (are k) in
       (first.0, each_by_number P xs (λ j. behind_first P x xs j (are j)))
 
-  -- what an element of this number adds to the count of those of number k
-  abbrev weight : ℕ → ℕ → ℕ
-  weight k n = cond (n == k) 1 0
-
   -- how many elements have number k
   abbrev count : ℕ → List X → ℕ
-  count k xs = length (numbered k xs)
-
-  count-cons : (k : ℕ) (x : X) (xs : List X) → count k (x ∷ xs) ≡ weight k (number x) + count k xs
-  count-cons k x xs =
-      let whole : Bool → ℕ = λ b. length (cond b (x ∷ numbered k xs) (numbered k xs)) in
-      elim (cases_Bool (number x == k)) [
-        | inl is ↦ subst (λ b. whole b ≡ cond b 1 0 + count k xs) (sym is) (omega arith)
-        | inr none ↦ subst (λ b. whole b ≡ cond b 1 0 + count k xs) (sym none) (omega arith)
-      ]
+  count k xs = having number k xs
 
   -- the list without its first element of this number
   abbrev without : ℕ → List X → List X
@@ -86,30 +75,30 @@ module _ {X : Type 0} (number : X → ℕ) where
   without_shorter k [] some = absurd (omega arith)
   without_shorter k (y ∷ ys) some =
       let rest : Bool → List X = λ b. cond b ys (y ∷ without k ys) in
-      let c = count-cons k y ys in
+      let c = having-cons number k y ys in
       elim (cases_Bool (number y == k)) [
         | inl is ↦ subst (λ b. length (rest b) < length (y ∷ ys)) (sym is) (omega arith)
         | inr none ↦
-            let no : weight k (number y) ≡ 0 = ap (λ b. cond b 1 0) none in
+            let no : is_it (number y) k ≡ 0 = ap (λ b. cond b 1 0) none in
             let shorter = without_shorter k ys (omega arith) in
             subst (λ b. length (rest b) < length (y ∷ ys)) (sym none) (omega arith)
       ]
 
   -- and has at most that element more
-  without_less : (k j : ℕ) (ys : List X) → count j ys ≤ count j (without k ys) + weight j k
+  without_less : (k j : ℕ) (ys : List X) → count j ys ≤ count j (without k ys) + is_it k j
   without_less k j [] = omega arith
   without_less k j (y ∷ ys) =
       let rest : Bool → List X = λ b. cond b ys (y ∷ without k ys) in
-      let c = count-cons j y ys in
-      let P : Bool → Type 0 = λ b. count j (y ∷ ys) ≤ count j (rest b) + weight j k in
+      let c = having-cons number j y ys in
+      let P : Bool → Type 0 = λ b. count j (y ∷ ys) ≤ count j (rest b) + is_it k j in
       elim (cases_Bool (number y == k)) [
         | inl is ↦
-            let same : weight j (number y) ≡ weight j k =
-            ap (weight j) (eqb-true (number y) k is) in
+            let same : is_it (number y) j ≡ is_it k j =
+            ap (λ m. is_it m j) (eqb-true (number y) k is) in
             subst P (sym is) (omega arith)
         | inr none ↦
             let more = without_less k j ys in
-            let d = count-cons j y (without k ys) in
+            let d = having-cons number j y (without k ys) in
             subst P (sym none) (omega arith)
       ]
 
@@ -117,15 +106,15 @@ module _ {X : Type 0} (number : X → ℕ) where
   without_first : (x : X) (xs ys : List X) (j : ℕ) → count j (x ∷ xs) ≤ count j ys
       → count j xs ≤ count j (without (number x) ys)
   without_first x xs ys j fewer =
-      omega (arith, count-cons j x xs, without_less (number x) j ys)
+      omega (arith, having-cons number j x xs, without_less (number x) j ys)
 
   -- A list with no more elements of each number is no longer.
   pub no_longer : (xs ys : List X) → ((k : ℕ) → count k xs ≤ count k ys) → length xs ≤ length ys
   no_longer [] ys fewer = omega arith
   no_longer (x ∷ xs) ys fewer =
       let k = number x in
-      let own : weight k k ≡ 1 = ap (λ b. cond b 1 0) (eq-eqb k k refl) in
-      let first = count-cons k x xs in
+      let own : is_it k k ≡ 1 = ap (λ b. cond b 1 0) (eq-eqb k k refl) in
+      let first = having-cons number k x xs in
       let enough = fewer k in
       let shorter = without_shorter k ys (omega arith) in
       let more = no_longer xs (without k ys) (λ j. without_first x xs ys j (fewer j)) in

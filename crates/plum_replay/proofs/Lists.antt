@@ -6,7 +6,7 @@ use Rattle.std.proofs.lemmas.List.Sums.{sum_by-cons}
 use Rattle.std.specs.List.{AllByRecursion, AllZip, flat_map}
 
 module _ {X : Type 0} (P : X → Type 0) where
-  -- What holds of both parts holds of the whole, and the other way round.
+  -- What holds of the whole holds of both parts.
   pub All-front : (xs ys : List X) → AllByRecursion P (xs ++ ys) → AllByRecursion P xs
   All-front [] ys are = tt
   All-front (x ∷ xs) ys are = (are.0, All-front xs ys are.1)
@@ -14,11 +14,6 @@ module _ {X : Type 0} (P : X → Type 0) where
   pub All-back : (xs ys : List X) → AllByRecursion P (xs ++ ys) → AllByRecursion P ys
   All-back [] ys are = are
   All-back (x ∷ xs) ys are = All-back xs ys are.1
-
-  pub All-both : (xs ys : List X) → AllByRecursion P xs → AllByRecursion P ys
-      → AllByRecursion P (xs ++ ys)
-  All-both [] ys px py = py
-  All-both (x ∷ xs) ys px py = (px.0, All-both xs ys px.1 py)
 
   -- What holds of each element of all pieces holds in each piece.
   pub All-pieces : (pieces : List (List X)) → AllByRecursion P (flat_map (λ piece. piece) pieces)

@@ -29,7 +29,8 @@ use Rattle.plum_text.specs.Laws.{CanBeTold}
 use Rattle.plum_text.specs.Lines.{FitsJournal}
 use Rattle.plum_base.specs.Note.{note_of}
 use Rattle.plum_text.specs.Texts.{code_of_station, notes_from, lines_from}
-use Rattle.plum_replay.proofs.Lists.{All-both, All-made, All-unmade, All-passing, All-pieces}
+use Rattle.plum_base.proofs.Members.{All-both}
+use Rattle.plum_replay.proofs.Lists.{All-made, All-unmade, All-passing, All-pieces}
 use Rattle.plum_replay.proofs.ByNumber.{each_by_number, no_longer}
 use Rattle.plum_replay.proofs.SameEntries.{IsInItsLane}
 use Rattle.plum_replay.proofs.Decodings.{CanBeSaid, CanBeCounted, few_packets}

@@ -1,16 +1,13 @@
 -- Both texts of a replay can be told.
-use Rattle.std.proofs.Common.{◌≡◌, ℕ, ◌+◌, ◌-◌, ◌^◌, ◌<◌, ◌≤◌, List, [], ◌∷◌, ◌++◌, length, map}
-use Rattle.std.proofs.Common.{take, sum_by, slice_get, Some, refl, sym, ap, ◌∙◌, subst, arith}
+use Rattle.std.proofs.Common.{◌≡◌, ℕ, ◌+◌, ◌-◌, ◌^◌, ◌<◌, List, [], ◌∷◌, ◌++◌, length, map}
+use Rattle.std.proofs.Common.{take, sum_by, slice_get, Some, sym, ap, ◌∙◌, subst, arith}
 use Rattle.std.proofs.Common.{bytes_eq}
 use Rattle.std.proofs.lemmas.List.{length-map}
-use Rattle.std.proofs.lemmas.List.Concat.{length-flat_map}
 use Rattle.std.proofs.lemmas.List.Elements.{recursion_from_All, All-weaker}
-use Rattle.std.proofs.lemmas.List.Sums.{sum_by-cons, sum_by-take-le}
 use Rattle.std.proofs.lemmas.Slice.Zip.{AllZip-long}
 use Rattle.std.specs.List.{AllByRecursion, AllZip}
 use Rattle.plum_base.specs.declared.answers.Reading.{Reading}
 use Rattle.plum_base.specs.declared.counts.Counts.{Counts}
-use Rattle.plum_base.specs.declared.entry.Entry.{Entry}
 use Rattle.plum_base.specs.declared.packet.Packet.{Packet}
 use Rattle.plum_base.specs.declared.packet.RefusedBody.{RefusedBody}
 use Rattle.plum_base.specs.declared.rules.Rules.{Rules}
@@ -19,14 +16,13 @@ use Rattle.plum_base.specs.declared.sites.TargetSite.{TargetSite}
 use Rattle.plum_base.specs.Levels.{IsFactor, IsLevelTable}
 use Rattle.plum_base.specs.Name.{IsName}
 use Rattle.plum_base.specs.Sites.{SitesView, AreLawful, IsPlace, areas_of, targets_of}
-use Rattle.plum_core.specs.Keys.{kept_after}
 use Rattle.plum_core.specs.Prediction.{FindsNear}
 use Rattle.plum_packet.specs.Reading.{MOST_RECORDS, HasMoreRecords}
 use Rattle.plum_packet.specs.Capture.{AreBytes}
-use Rattle.plum_packet.specs.Counts.{counts_after, counts_in}
+use Rattle.plum_packet.specs.Counts.{counts_after}
 use Rattle.plum_packet.specs.Laws.{HoldEachBody, TailIsShort}
 use Rattle.plum_packet.specs.Segments.{Decoded, packets_in, refused_in}
-use Rattle.plum_core.specs.Transcript.{Transcript, IsReadingAt, IsLegal, journal_of, entries_up_to}
+use Rattle.plum_core.specs.Transcript.{Transcript, IsReadingAt, IsLegal, journal_of}
 use Rattle.plum_text.specs.Laws.{CanBeTold, SectionsCanBeTold}
 use Rattle.plum_text.specs.Texts.{Section}
 use Rattle.plum_replay.specs.Laws.{AreNamed}
@@ -36,7 +32,8 @@ use Rattle.plum_replay.proofs.Lists.{All-at, All-by_index, AllZip-by_index, All-
 use Rattle.plum_replay.proofs.Lists.{All-passing, sum_by-map}
 use Rattle.plum_replay.proofs.Decodings.{CanBeCounted, CanBeRefused, few_packets, capture_counted}
 use Rattle.plum_replay.proofs.Predicted.{predictions_fit}
-use Rattle.plum_packet.proofs.Counted.{few_kept}
+use Rattle.plum_packet.proofs.Counted.{few_kept, all}
+use Rattle.plum_core.proofs.GoingOn.{mark_within}
 use Rattle.plum_replay.proofs.ToldJournal.{few_parts, journal_told}
 use Rattle.plum_replay.proofs.ToldSections.{IsCounted, CanBeRead, CanBeShown, sections_told}
 use Rattle.plum_replay.proofs.ToldSections.{bodies_of}
@@ -51,42 +48,6 @@ all_counted earlier (segment ∷ segments) =
     let kept = few_kept earlier packets in (
       record { kept = omega (arith, few.0); repeats = omega (arith, few.0); refused = few.1 },
       all_counted (earlier ++ packets) segments,
-    )
-
--- there is one for each segment, and the bodies are those of the segments
-length-counts : (earlier : List Packet) (segments : List (List Decoded))
-    → length (counts_after earlier segments) ≡ length segments
-length-counts earlier [] = refl
-length-counts earlier (segment ∷ segments) =
-    omega (arith, length-counts (earlier ++ packets_in segment) segments)
-
-sum_of_bodies : (earlier : List Packet) (segments : List (List Decoded))
-    → sum_by (λ c. c.bodies) (counts_after earlier segments)
-    ≡ sum_by (λ segment. length segment) segments
-sum_of_bodies earlier [] = refl
-sum_of_bodies earlier (segment ∷ segments) =
-    let later = earlier ++ packets_in segment in
-    let rest = counts_after later segments in
-    let bodies : Counts → ℕ = λ c. c.bodies in
-    let length_of : List Decoded → ℕ = λ s. length s in
-    let more = sum_of_bodies later segments in
-    omega (
-      arith,
-      sum_by-cons length_of segment segments,
-      sum_by-cons bodies
-          (counts_in segment (kept_after earlier (packets_in segment))) rest,
-    )
-
--- fewer entries are in some parts than in all
-taken_fewer : (k : ℕ) (t : Transcript) → length (entries_up_to k t) ≤ length (journal_of t)
-taken_fewer k t =
-    let whole : List Entry → List Entry = λ part. part in
-    let count : List Entry → ℕ = λ part. length part in
-    omega (
-      arith,
-      length-flat_map whole (take k t.parts),
-      length-flat_map whole t.parts,
-      sum_by-take-le count t.parts k,
     )
 
 -- Each section of a transcript that is right in its parts can be shown.
@@ -146,7 +107,7 @@ module _ (finds : FindsNear) (setup : Setup) (sites : SitesView)
       All-passing (λ t. IsFactor t.factor) (λ t. bytes_eq t.area area) sites.targets
       target_factors in
       record {
-        front = omega (arith, taken_fewer (m + 1) t);
+        front = omega (arith, mark_within (m + 1) t);
         one_each = AllZip-long _ ts reading.answers predicted;
         answers =
             predictions_fit finds sites.stations station_factors history ts reading.answers in_ts
@@ -171,7 +132,9 @@ module _ (finds : FindsNear) (setup : Setup) (sites : SitesView)
       let targets = sites.targets in
       let counts_in_section : Section → Counts = λ s. s.counts in
       let bodies_in : Counts → ℕ = λ c. c.bodies in
+      let length_of : List Decoded → ℕ = λ segment. length segment in
       let counts = counts_after [] segments in
+      let bodies_are = all [] segments in
       let Read : List Reading → Type 0 = AllZip (CanBeRead targets) areas in
       let Refused : List RefusedBody → Type 0 = AllByRecursion CanBeRefused in
       let own =
@@ -186,9 +149,10 @@ module _ (finds : FindsNear) (setup : Setup) (sites : SitesView)
       (subst (AllByRecursion Read) (sym are.read) (All-by_index Read t.readings mark_told)) in
       let alerts =
       recursion_from_All (λ s. length s.alerts ≡ length s.readings) sections are.one_each in
-      let sum : sum_by bodies_of sections ≡ sum_by (λ segment. length segment) segments =
+      let sum : sum_by bodies_of sections ≡ sum_by length_of segments =
       sym (sum_by-map counts_in_section bodies_in sections)
-      ∙ ap (λ cs. sum_by bodies_in cs) are.counts ∙ sum_of_bodies [] segments in
+      ∙ ap (λ cs. sum_by bodies_in cs) are.counts ∙ sym (sum_by-map bodies_in (λ n. n) counts)
+      ∙ ap (λ ns. sum_by (λ n. n) ns) bodies_are ∙ sum_by-map length_of (λ n. n) segments in
       let long : length (map counts_in_section sections) ≡ length counts = ap length are.counts in
       let few = counted.few in
       let bodies = counted.bodies in
@@ -196,7 +160,14 @@ module _ (finds : FindsNear) (setup : Setup) (sites : SitesView)
       (recursion_from_All (λ t. IsName t.name) targets named.names)
       (All-made IsName (λ t. t.area) targets
       (recursion_from_All (λ t. IsName t.area) targets named.areas))
-      (omega (arith, long, length-map sections counts_in_section, length-counts [] segments))
+      (omega (
+        arith,
+        long,
+        length-map sections counts_in_section,
+        ap length bodies_are,
+        length-map counts bodies_in,
+        length-map segments length_of,
+      ))
       (omega (arith, sum)) short (shown_each targets sections own refused read alerts)
 
 module _ (hold : HoldEachBody) (setup : Setup) (sites : SitesView)

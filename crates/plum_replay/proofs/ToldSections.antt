@@ -21,7 +21,8 @@ use Rattle.plum_text.specs.Lines.{FitsOut}
 use Rattle.plum_text.specs.Texts.{Section, IsWhole, answer_lines, alert_lines, area_lines}
 use Rattle.plum_text.specs.Texts.{areas_lines, section_lines, sections_lines, totals_of}
 use Rattle.plum_text.specs.Texts.{refused_lines, end_lines, out_lines}
-use Rattle.plum_replay.proofs.Lists.{All-both, All-passing}
+use Rattle.plum_base.proofs.Members.{All-both}
+use Rattle.plum_replay.proofs.Lists.{All-passing}
 use Rattle.plum_replay.proofs.Decodings.{CanBeRefused}
 
 -- Each of the counts is at most that of the bodies.
