@@ -26,7 +26,7 @@ fn station_code(sites: &Sites, station: StationNo) -> u16
 }
 
 /// The bytes before the samples.
-fn header_of(code: u16, key: Key, count: u16) -> [u8; HEADER]
+pub fn header_of(code: u16, key: Key, count: u16) -> [u8; HEADER]
     ensures value { result ≡ header_of code key count }
     ensures range { FitsKey key }
 {
@@ -41,7 +41,7 @@ fn header_of(code: u16, key: Key, count: u16) -> [u8; HEADER]
 }
 
 /// The bytes of a sample.
-fn sample_bytes(sample: Sample) -> [u8; SAMPLE]
+pub fn sample_bytes(sample: Sample) -> [u8; SAMPLE]
     ensures value { result ≡ sample_bytes sample }
     ensures range { FitsSample sample }
 {

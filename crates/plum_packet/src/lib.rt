@@ -22,7 +22,7 @@ pub use bodies::{Bodies, Found, given_bodies_begin};
 pub use body::{DecodeFault, Head, MOST_SAMPLES, decode, inspect};
 pub use capture::bytes_are_one_capture;
 pub use counts::bodies_are_counted;
-pub use encoding::encode;
+pub use encoding::{encode, header_of, sample_bytes};
 pub use records::{Body, MOST_RECORDS, Progress, Records, RecordsFault};
 pub use segment::Segment;
 pub use segments::{SEGMENT_BODIES, SegmentFault, Segments, segments_hold_each_body};
