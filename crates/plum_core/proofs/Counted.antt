@@ -94,7 +94,7 @@ module _ {X : Type 0} (number : X → ℕ) where
 
   module _ (n : ℕ) (below : (x : X) → number x < n) where
     -- Where all numbers are below n, those of each number are all of them together.
-    counted_by : (xs : List X) → length xs ≡ sum_by (λ k. having k xs) (range_with_len 0 n)
+    pub counted_by : (xs : List X) → length xs ≡ sum_by (λ k. having k xs) (range_with_len 0 n)
     counted_by [] = sym (sum_by-zero (range_with_len 0 n))
     counted_by (x ∷ xs) =
         let all : List ℕ = range_with_len 0 n in
