@@ -1,6 +1,7 @@
 -- How the work ends at each input.
 use Rattle.std.proofs.Common.{◌≡◌, ℕ, ◌<◌, true, List, [], Option, Some, None}
 use Rattle.std.proofs.Common.{inl, inr, refl, sym, ap, subst, ◌∙◌, arith, append-nil}
+use Rattle.std.specs.Prelude.{IfSome}
 use Rattle.plum_base.specs.declared.setup.Setup.{Setup}
 use Rattle.plum_base.specs.Counts.{AddUp}
 use Rattle.plum_base.specs.Sites.{SitesView}
@@ -120,6 +121,13 @@ broke_off_quietly (station setup stations capture code) before after nothing lef
     record { journal = left; output = inl nothing.output }
 broke_off_quietly (check setup stations targets capture) before after nothing left =
     record { journal = left; output = inl nothing.output }
+
+-- Where memory is short before anything is read, nothing is appended.
+pub unread_appends : (asked : Option Job) (host : HostView)
+    → IfSome asked (λ job. AppendsEnd job ends.NoMemory host host)
+unread_appends None host = tt
+unread_appends (Some job) host =
+    broke_off_quietly job host host (nothing_appended host host (λ to. refl)) refl
 
 -- At a file the work ends before anything is appended.
 appends_at_a_file : (job : Job) (status : Status) (file : In) (before after : HostView)

@@ -8,3 +8,6 @@ pub mod Written
 pub mod Begun
 pub mod PlainEnds
 pub mod Commands
+pub mod Numbers
+pub mod Clapping
+pub mod Accepted

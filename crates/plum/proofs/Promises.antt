@@ -14,20 +14,8 @@ use Rattle.plum.specs.Files.{MOST_BYTES, IsLawful, IsFile, TellsLawfulFiles, use
 use Rattle.plum.specs.Job.{Job}
 use Rattle.plum.specs.Causes.{EndsAtAnInput, IsFaultySetupFile, IsFaultyStationFile}
 use Rattle.plum.specs.Causes.{IsFaultyTargetFile}
-use Rattle.plum.specs.Status.{CountsEnd, IsAnswerWithoutFault}
+use Rattle.plum.specs.Status.{CountsEnd, IsAnswerOverLawfulFiles, IsAnswerWithoutFault}
 use Rattle.plum.specs.Ended.{AppendsEnd, DoesJob}
-
-pub headline_of : (job : Job) (status : Status) (before after : HostView)
-    → AppendsEnd job status before after → status ≡ ends.Done → DoesJob job before after
-headline_of job status before after appends is =
-    subst (λ s. AppendsEnd job s before after) is appends
-
-pub no_usage : (job : Job) (status : Status) (before after : HostView)
-    → EndsAtAnInput job status before after → status ≡ ends.Usage → ⊥
-no_usage job status before after at is =
-    let end : EndsAtAnInput job ends.Usage before after =
-    subst (λ s. EndsAtAnInput job s before after) is at in
-    end.cause
 
 pub complete_of : (job : Job) (status : Status) (before after : HostView)
     → EndsAtAnInput job status before after → CountsEnd status before after
@@ -54,10 +42,10 @@ within_limit inputs.Output bytes turn lawful = absurd (omega arith)
 
 pub over_lawful_files : StationsAreTold → TargetsAreTold → (job : Job) (status : Status)
     (before after : HostView) → EndsAtAnInput job status before after
-    → IsAnswerWithoutFault status → TellsLawfulFiles job before → (status ≡ ends.Done)
-    ⊎ ((status ≡ ends.Limit limits.Records) ⊎ (status ≡ ends.NoMemory))
-over_lawful_files stations targets job ends.Done before after at sound lawful = inl refl
-over_lawful_files stations targets job ends.Usage before after at sound lawful = absurd sound
+    → IsAnswerWithoutFault status → TellsLawfulFiles job before
+    → IsAnswerOverLawfulFiles status
+over_lawful_files stations targets job ends.Done before after at sound lawful = tt
+over_lawful_files stations targets job ends.Usage before after at sound lawful = sound
 over_lawful_files stations targets job (ends.Setup fault) before after at sound lawful =
     let file = lawful inputs.Setup (omega arith) refl in
     let has : WhereTold before inputs.Setup (IsFaultySetupFile fault) =
@@ -69,14 +57,14 @@ over_lawful_files stations targets job (ends.Sites sites.Stations fault) before 
     let file = lawful inputs.Stations (omega arith) refl in
     let has : WhereTold before inputs.Stations (IsFaultyStationFile fault) =
     subst (λ f. WhereTold before f (IsFaultyStationFile fault)) at.cause.0 at.cause.1 in
-    absurd ((stations file.0).either file.2.0 fault file.2.1.1 (has file.0 file.1).1)
+    (stations file.0).either file.2.0 fault file.2.1.1 (has file.0 file.1).1
 over_lawful_files stations targets job (ends.Sites sites.Targets fault) before after at sound lawful =
     let file = lawful inputs.Targets (omega arith) (subst (λ f. uses job f ≡ true) at.cause.0 at.used) in
     let has : WhereTold before inputs.Targets (IsFaultyTargetFile fault) =
     subst (λ f. WhereTold before f (IsFaultyTargetFile fault)) at.cause.0 at.cause.1 in
-    absurd ((targets file.0).either file.2.0 fault file.2.1.1 (has file.0 file.1).1)
-over_lawful_files stations targets job ends.ReadFault before after at sound lawful = absurd sound
-over_lawful_files stations targets job ends.WriteFault before after at sound lawful = absurd sound
+    (targets file.0).either file.2.0 fault file.2.1.1 (has file.0 file.1).1
+over_lawful_files stations targets job ends.ReadFault before after at sound lawful = sound
+over_lawful_files stations targets job ends.WriteFault before after at sound lawful = sound
 over_lawful_files stations targets job (ends.Limit (limits.File long)) before after at sound lawful =
     let file = lawful long at.cause.1 (subst (λ f. uses job f ≡ true) at.cause.0 at.used) in
     let has : WhereTold before long (λ bytes. MOST_BYTES < length bytes) =
@@ -84,6 +72,5 @@ over_lawful_files stations targets job (ends.Limit (limits.File long)) before af
     let within = within_limit long file.0 at.cause.1 file.2 in
     let above = has file.0 file.1 in
     absurd (omega arith)
-over_lawful_files stations targets job (ends.Limit limits.Records) before after at sound lawful =
-    inr (inl refl)
-over_lawful_files stations targets job ends.NoMemory before after at sound lawful = inr (inr refl)
+over_lawful_files stations targets job (ends.Limit limits.Records) before after at sound lawful = tt
+over_lawful_files stations targets job ends.NoMemory before after at sound lawful = tt

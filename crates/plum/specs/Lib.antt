@@ -1,5 +1,6 @@
 pub mod Job
 pub mod Asked
+pub mod Words
 pub mod Status
 pub mod Files
 pub mod Causes

@@ -106,3 +106,11 @@ IsAnswerWithoutFault Usage = ⊥
 IsAnswerWithoutFault ReadFault = ⊥
 IsAnswerWithoutFault WriteFault = ⊥
 IsAnswerWithoutFault status = ⊤
+
+-- It is one where the files are lawful too: the work is done, or the capture has too many records,
+-- or memory is short.
+abbrev pub IsAnswerOverLawfulFiles : Status → Type 0
+IsAnswerOverLawfulFiles Done = ⊤
+IsAnswerOverLawfulFiles (Limit Records) = ⊤
+IsAnswerOverLawfulFiles NoMemory = ⊤
+IsAnswerOverLawfulFiles status = ⊥

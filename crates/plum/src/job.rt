@@ -1,10 +1,13 @@
 //! The words of a call.
 
-ghost use Rattle.std.specs.Prelude.{◌≡◌, [], map, string_bytes, None, Some, IfOk, MatchOption};
-ghost use Rattle.plum.specs.Asked.{job_in};
-ghost use Rattle.plum.specs.Job.{is_path, is_digit, is_number, number_up_to, job_of, paths_in};
-ghost use Rattle.plum.specs.Job.{replay_of, station_of, check_of};
+ghost use Rattle.std.specs.Prelude.{◌≡◌, ℕ, [], map, string_bytes, None, Some, IfOk, IfErr};
+ghost use Rattle.std.specs.Prelude.{MatchOption, is_some, true};
+ghost use Rattle.std.specs.Option.{option_map};
+ghost use Rattle.plum.specs.Asked.{job_in, name_of};
+ghost use Rattle.plum.specs.Job.{LAST_CODE, number_up_to, job_of, paths_in};
 
+use crate::grammar::{CommandName, LAST_CODE, command_of, read_number};
+use crate::words::{clap_reads_the_grammar, read_with, word};
 use plum_base::NoMemory;
 use plum_host::{PathText, Paths};
 use std::alloc::Global;
@@ -36,138 +39,96 @@ pub enum Job<'a> {
     },
 }
 
-/// The most digits of a number.
-const MOST_DIGITS: usize = 20;
+/// Under which names `clap` has the words of `replay`.
+static REPLAY_IDS: [&str; 5] = ["SETUP", "STATIONS", "TARGETS", "CAPTURE", "JOURNAL"];
 
-/// The greatest code of a station.
-const LAST_CODE: u64 = 65_535;
+/// Those of `station`.
+static STATION_IDS: [&str; 4] = ["SETUP", "STATIONS", "CAPTURE", "CODE"];
 
-/// Whether the word is a path: not empty, and not beginning with `-`.
-fn is_path(word: &str) -> bool
-    ensures { result ≡ is_path word.now }
+/// Those of `check`.
+static CHECK_IDS: [&str; 4] = ["SETUP", "STATIONS", "TARGETS", "CAPTURE"];
+
+/// What `replay` works on, where the words ask for it.
+fn read_replay<'a>(alloc: Global, words: &'a [String]) -> Result<Job<'a>, NoMemory>
+    requires { option_map name_of (job_of (map string_bytes words.now))
+        ≡ Some CommandName.Replay }
+    ensures { IfOk result (λ job. job_of (map string_bytes words.entry.now)
+        ≡ Some (job_in job)) }
 {
-    match word.as_bytes() {
-        [] => false,
-        [first, ..] => *first != b'-',
+    // For the contract: `clap` takes these words.
+    clap_reads_the_grammar();
+    let matches = read_with(alloc, "replay", REPLAY_IDS.as_slice(), words)?;
+    Ok(Job::Replay {
+        setup: word(&matches, "SETUP"),
+        stations: word(&matches, "STATIONS"),
+        targets: word(&matches, "TARGETS"),
+        capture: word(&matches, "CAPTURE"),
+        journal: word(&matches, "JOURNAL"),
+    })
+}
+
+/// The code that the word is, where it is one.
+fn code_in(word: &str) -> u16
+    ensures { (code : ℕ) → number_up_to LAST_CODE word.now ≡ Some code → result ≡ code }
+{
+    match read_number(word, LAST_CODE) {
+        Some(code) => code as u16,
+        None => 0,
     }
 }
 
-/// Whether the byte is one of `0` to `9`.
-fn is_digit(byte: u8) -> bool
-    ensures { result ≡ is_digit byte }
+/// What `station` works on, where the words ask for it.
+fn read_station<'a>(alloc: Global, words: &'a [String]) -> Result<Job<'a>, NoMemory>
+    requires { option_map name_of (job_of (map string_bytes words.now))
+        ≡ Some CommandName.Station }
+    ensures { IfOk result (λ job. job_of (map string_bytes words.entry.now)
+        ≡ Some (job_in job)) }
 {
-    b'/' < byte && byte < b':'
+    // For the contract: `clap` takes these words.
+    clap_reads_the_grammar();
+    let matches = read_with(alloc, "station", STATION_IDS.as_slice(), words)?;
+    Ok(Job::Station {
+        setup: word(&matches, "SETUP"),
+        stations: word(&matches, "STATIONS"),
+        capture: word(&matches, "CAPTURE"),
+        code: code_in(word(&matches, "CODE")),
+    })
 }
 
-/// Whether the word is a number: 1 to 20 digits.
-fn is_number(word: &str) -> bool
-    ensures { result ≡ is_number word.now }
+/// What `check` works on, where the words ask for it.
+fn read_check<'a>(alloc: Global, words: &'a [String]) -> Result<Job<'a>, NoMemory>
+    requires { option_map name_of (job_of (map string_bytes words.now))
+        ≡ Some CommandName.Check }
+    ensures { IfOk result (λ job. job_of (map string_bytes words.entry.now)
+        ≡ Some (job_in job)) }
 {
-    let bytes = word.as_bytes();
-    !bytes.is_empty() && bytes.len() <= MOST_DIGITS && bytes.iter().all(|byte| is_digit(*byte))
+    // For the contract: `clap` takes these words.
+    clap_reads_the_grammar();
+    let matches = read_with(alloc, "check", CHECK_IDS.as_slice(), words)?;
+    Ok(Job::Check {
+        setup: word(&matches, "SETUP"),
+        stations: word(&matches, "STATIONS"),
+        targets: word(&matches, "TARGETS"),
+        capture: word(&matches, "CAPTURE"),
+    })
 }
 
-/// The number that the word is, where it is this at most.
-fn read_number(word: &str, most: u64) -> Option<u64>
-    ensures { result ≡ number_up_to most word.now }
+/// What the words ask for, or none where they are not of the grammar. The grammar decides; then
+/// `clap` reads the words, and refuses none of them but for want of memory.
+pub fn read_words<'a>(alloc: Global, words: &'a [String]) -> Result<Option<Job<'a>>, NoMemory>
+    ensures job { IfOk result (λ asked. MatchOption asked
+        (job_of (map string_bytes words.entry.now) ≡ None)
+        (λ job. job_of (map string_bytes words.entry.now) ≡ Some (job_in job))) }
+    ensures err { IfErr result (λ _.
+        is_some (job_of (map string_bytes words.entry.now)) ≡ true) }
 {
-    if !is_number(word) {
-        return None;
-    }
-    match word.parse::<u64>() {
-        Ok(number) if number <= most => Some(number),
-        _ => None,
-    }
-}
-
-/// What `replay` works on.
-fn read_replay(words: &[String]) -> Option<Job<'_>>
-    ensures { MatchOption result (replay_of (map string_bytes words.now) ≡ None)
-        (λ job. replay_of (map string_bytes words.now) ≡ Some (job_in job)) }
-{
-    let [setup, stations, targets, capture, journal] = words else {
-        return None;
+    let job = match command_of(words) {
+        None => return Ok(None),
+        Some(CommandName::Replay) => read_replay(alloc, words)?,
+        Some(CommandName::Station) => read_station(alloc, words)?,
+        Some(CommandName::Check) => read_check(alloc, words)?,
     };
-    if is_path(setup.as_str())
-        && is_path(stations.as_str())
-        && is_path(targets.as_str())
-        && is_path(capture.as_str())
-        && is_path(journal.as_str())
-    {
-        Some(Job::Replay {
-            setup: setup.as_str(),
-            stations: stations.as_str(),
-            targets: targets.as_str(),
-            capture: capture.as_str(),
-            journal: journal.as_str(),
-        })
-    } else {
-        None
-    }
-}
-
-/// What `station` works on.
-fn read_station(words: &[String]) -> Option<Job<'_>>
-    ensures { MatchOption result (station_of (map string_bytes words.now) ≡ None)
-        (λ job. station_of (map string_bytes words.now) ≡ Some (job_in job)) }
-{
-    let [setup, stations, capture, code] = words else {
-        return None;
-    };
-    if is_path(setup.as_str()) && is_path(stations.as_str()) && is_path(capture.as_str()) {
-        let number = read_number(code.as_str(), LAST_CODE)?;
-        Some(Job::Station {
-            setup: setup.as_str(),
-            stations: stations.as_str(),
-            capture: capture.as_str(),
-            code: number as u16,
-        })
-    } else {
-        None
-    }
-}
-
-/// What `check` works on.
-fn read_check(words: &[String]) -> Option<Job<'_>>
-    ensures { MatchOption result (check_of (map string_bytes words.now) ≡ None)
-        (λ job. check_of (map string_bytes words.now) ≡ Some (job_in job)) }
-{
-    let [setup, stations, targets, capture] = words else {
-        return None;
-    };
-    if is_path(setup.as_str())
-        && is_path(stations.as_str())
-        && is_path(targets.as_str())
-        && is_path(capture.as_str())
-    {
-        Some(Job::Check {
-            setup: setup.as_str(),
-            stations: stations.as_str(),
-            targets: targets.as_str(),
-            capture: capture.as_str(),
-        })
-    } else {
-        None
-    }
-}
-
-/// What the words ask for, or none where they are not of the grammar.
-pub fn read_words(words: &[String]) -> Option<Job<'_>>
-    ensures { MatchOption result (job_of (map string_bytes words.now) ≡ None)
-        (λ job. job_of (map string_bytes words.now) ≡ Some (job_in job)) }
-{
-    let [command, behind @ ..] = words else {
-        return None;
-    };
-    if command.as_str() == "replay" {
-        read_replay(behind)
-    } else if command.as_str() == "station" {
-        read_station(behind)
-    } else if command.as_str() == "check" {
-        read_check(behind)
-    } else {
-        None
-    }
+    Ok(Some(job))
 }
 
 /// So many paths, as the words name them.
@@ -203,7 +164,7 @@ fn paths_from(
 pub fn paths_of(alloc: Global, words: &[String]) -> Result<Paths, NoMemory>
     ensures { IfOk result (λ paths. paths ≡ paths_in (job_of (map string_bytes words.now))) }
 {
-    match read_words(words) {
+    match read_words(alloc, words)? {
         Some(
             Job::Replay {
                 setup,

@@ -7,6 +7,7 @@
 #![tactic(auto)]
 
 mod files;
+mod grammar;
 mod job;
 mod run;
 mod status;
@@ -14,6 +15,7 @@ mod tally;
 mod teller;
 mod telling;
 mod watch;
+mod words;
 mod work;
 
 pub use job::paths_of;

@@ -1,18 +1,20 @@
 //! The top calls.
 
-ghost use Rattle.std.specs.Prelude.{◌≡◌, ◌↔◌, ◌⊎◌, map, string_bytes, None, Some, IfSome};
-ghost use Rattle.std.specs.Prelude.{MatchOption, MatchResult};
-ghost use Rattle.plum.specs.declared.status.LimitOf.TheVariants.{Records};
+ghost use Rattle.std.specs.Prelude.{◌≡◌, ◌↔◌, map, string_bytes, None, Some, IfSome, IfOk, IfErr};
+ghost use Rattle.std.specs.Prelude.{MatchOption, MatchResult, is_some, true};
 ghost use Rattle.plum.specs.Asked.{job_in};
 ghost use Rattle.plum.specs.Causes.{EndsAtAnInput, LeavesUnused};
 ghost use Rattle.plum.specs.Ended.{AppendsEnd, DoesJob, HasEnded, WritesAtAnEnd};
 ghost use Rattle.plum.specs.Files.{TellsLawfulFiles};
 ghost use Rattle.plum.specs.Job.{job_of, plain_job_of};
 ghost use Rattle.plum.specs.Status.{CountsEnd, MeetsNoFault, IsAnswerWithoutFault};
+ghost use Rattle.plum.specs.Status.{IsAnswerOverLawfulFiles};
 
+use crate::grammar::{CommandName, command_of};
 use crate::job::{Job, read_words};
 use crate::status::Status;
 use crate::work::{check_files, replay_files, show_station};
+use plum_base::NoMemory;
 use plum_host::Host;
 use plum_sites::files_have_one_answer;
 use std::alloc::Global;
@@ -38,14 +40,29 @@ fn work<H: Host>(alloc: Global, job: Job<'_>, host: &mut H) -> Status
     }
 }
 
-/// The plain command that the words ask for, or none where they ask for nothing, or for `replay`.
-fn read_plain(words: &[String]) -> Option<Job<'_>>
-    ensures { MatchOption result (plain_job_of (map string_bytes words.now) ≡ None)
-        (λ job. plain_job_of (map string_bytes words.now) ≡ Some (job_in job)) }
+/// Does a job: over lawful files no file is refused.
+fn work_over_files<H: Host>(alloc: Global, job: Job<'_>, host: &mut H) -> Status
+    ensures ended { HasEnded (job_in job.entry) result (H.told host.old) (H.told host.new) }
+    ensures lawful { MeetsNoFault (H.told host.old) (H.told host.new)
+        → TellsLawfulFiles (job_in job.entry) (H.told host.old)
+        → IsAnswerOverLawfulFiles result }
 {
-    match read_words(words)? {
-        Job::Replay { .. } => None,
-        job => Some(job),
+    // For the contract: a file that states sites has no fault.
+    files_have_one_answer();
+    work(alloc, job, host)
+}
+
+/// The plain command that the words ask for, or none where they ask for nothing, or for `replay`.
+fn read_plain<'a>(alloc: Global, words: &'a [String]) -> Result<Option<Job<'a>>, NoMemory>
+    ensures job { IfOk result (λ asked. MatchOption asked
+        (plain_job_of (map string_bytes words.entry.now) ≡ None)
+        (λ job. plain_job_of (map string_bytes words.entry.now) ≡ Some (job_in job))) }
+    ensures err { IfErr result (λ _.
+        is_some (plain_job_of (map string_bytes words.entry.now)) ≡ true) }
+{
+    match command_of(words) {
+        Some(CommandName::Station | CommandName::Check) => read_words(alloc, words),
+        Some(CommandName::Replay) | None => Ok(None),
     }
 }
 
@@ -68,8 +85,7 @@ pub fn run_plain<H: Host>(alloc: Global, words: &[String], host: &mut H) -> Stat
         MeetsNoFault (H.told host.old) (H.told host.new) → IsAnswerWithoutFault result) }
     ensures complete_over_lawful_files { IfSome (plain_job_of (map string_bytes words.now)) (λ job.
         MeetsNoFault (H.told host.old) (H.told host.new) → TellsLawfulFiles job (H.told host.old)
-        → (result ≡ Status.Done) ⊎ ((result ≡ Status.Limit Records)
-        ⊎ (result ≡ Status.NoMemory))) }
+        → IsAnswerOverLawfulFiles result) }
 
     ensures counts { CountsEnd result (H.told host.old) (H.told host.new) }
     ensures outputs { IfSome (plain_job_of (map string_bytes words.now)) (λ job.
@@ -77,11 +93,10 @@ pub fn run_plain<H: Host>(alloc: Global, words: &[String], host: &mut H) -> Stat
     ensures unused { IfSome (plain_job_of (map string_bytes words.now)) (λ job.
         LeavesUnused job (H.told host.old) (H.told host.new)) }
 {
-    // For the contract: a file that states sites has no fault.
-    files_have_one_answer();
-    match read_plain(words) {
-        Some(job) => work(alloc, job, host),
-        None => Status::Usage,
+    match read_plain(alloc, words) {
+        Ok(Some(job)) => work_over_files(alloc, job, host),
+        Ok(None) => Status::Usage,
+        Err(NoMemory) => Status::NoMemory,
     }
 }
 
@@ -114,8 +129,7 @@ pub fn run<H: Host>(alloc: Global, words: &[String], host: &mut H) -> Status
         MeetsNoFault (H.told host.old) (H.told host.new) → IsAnswerWithoutFault result) }
     ensures complete_over_lawful_files { IfSome (job_of (map string_bytes words.now)) (λ job.
         MeetsNoFault (H.told host.old) (H.told host.new) → TellsLawfulFiles job (H.told host.old)
-        → (result ≡ Status.Done) ⊎ ((result ≡ Status.Limit Records)
-        ⊎ (result ≡ Status.NoMemory))) }
+        → IsAnswerOverLawfulFiles result) }
 
     // The one failed read or write that ended the work is counted, and nothing else.
     ensures counts { CountsEnd result (H.told host.old) (H.told host.new) }
@@ -134,10 +148,9 @@ pub fn run<H: Host>(alloc: Global, words: &[String], host: &mut H) -> Status
     ensures unused { IfSome (job_of (map string_bytes words.now)) (λ job.
         LeavesUnused job (H.told host.old) (H.told host.new)) }
 {
-    // For the contract: a file that states sites has no fault.
-    files_have_one_answer();
-    match read_words(words) {
-        Some(job) => work(alloc, job, host),
-        None => Status::Usage,
+    match read_words(alloc, words) {
+        Ok(Some(job)) => work_over_files(alloc, job, host),
+        Ok(None) => Status::Usage,
+        Err(NoMemory) => Status::NoMemory,
     }
 }

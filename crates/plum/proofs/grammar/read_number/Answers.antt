@@ -1,17 +1,14 @@
-use Rattle.std.proofs.Common.{◌≡◌, ℕ, ◌+◌, ◌<◌, ◌^◌, Bool, true, false, List, length, None}
+use Rattle.std.proofs.Common.{◌≡◌, ℕ, ◌+◌, ◌<◌, ◌^◌, true, List, length, None}
 use Rattle.std.proofs.Common.{Result, Err, refl, sym, ◌∙◌, inl, inr, arith, rules}
 use Rattle.std.proofs.lemmas.Bool.{cases_Bool, cases_lt}
 use Rattle.std.proofs.lemmas.Str.Parse.{IsNumeralModel, numerals_by_value, parse_gives}
 use Rattle.std.specs.List.{list_all}
-use Rattle.std.specs.Prelude.{◌&&◌, nat_lt}
+use Rattle.std.specs.Prelude.{nat_lt}
 use Rattle.std.specs.Str.Parse.{ParsesUnsigned, digits_value}
 use borrow.Author.Tests.{ltb-true}
 use Rattle.plum.specs.Job.{is_digit, is_number, number_up_to}
-use Rattle.plum.proofs.job.read_number.Goals as goal
-
-both : (a b : Bool) → (a && b) ≡ true → (a ≡ true) × (b ≡ true)
-both true b e = (refl, e)
-both false b e = absurd cc
+use Rattle.plum.proofs.Numbers.{three_true}
+use Rattle.plum.proofs.grammar.read_number.Goals as goal
 
 own : IsNumeralModel (λ w. list_all is_digit w ≡ true) (digits_value 10)
 own = numerals_by_value _ (search rules)
@@ -21,13 +18,12 @@ above : {E : Type 0} (most : ℕ) (word : List ℕ) (r : Result ℕ E) (e : E) �
     → is_number word ≡ true → ParsesUnsigned 64 10 word r → r ≡ Err e
     → None ≡ number_up_to most word
 above most word r e fits number parses err =
-    let test : Bool = nat_lt 0 (length word) && nat_lt (length word) 21 in
-    let parts = both test (list_all is_digit word) number in
-    let some : 0 < length word =
-    ltb-true 0 (length word) (both (nat_lt 0 (length word)) (nat_lt (length word) 21) parts.0).0 in
+    let parts = three_true (nat_lt 0 (length word)) (nat_lt (length word) 21)
+    (list_all is_digit word) number in
+    let some : 0 < length word = ltb-true 0 (length word) parts.0 in
     elim (cases_lt (digits_value 10 word) (2 ^ 64)) [
       | inl few ↦
-          let read = parse_gives own 64 word r parses parts.1 some few in absurd cc
+          let read = parse_gives own 64 word r parses parts.2 some few in absurd cc
       | inr many ↦ elim (cases_Bool (nat_lt (digits_value 10 word) (most + 1))) [
         | inl within ↦
             let below : digits_value 10 word < most + 1 = ltb-true _ _ within in
