@@ -12,8 +12,9 @@ use Rattle.plum_centre.specs.Feeder.{FeederView, BATCH}
 abbrev pub ArePending : ℕ → FeederView → Type 0
 ArePending count feeder = length feeder.published + count ≤ length feeder.appended
 
--- It gathered an entry, which is pending and noted then.
+-- It gathered an entry, which is pending and noted then: no whole batch was pending.
 pub record FeedsOne (before after : FeederView) : Type 0 where
+  pub no_batch : ¬ ArePending BATCH before
   pub entry : Entry
   pub grew : gathered after.gather ≡ gathered before.gather ++ entry ∷ []
   pub rest : after ≡ record before {
