@@ -1,15 +1,22 @@
 -- A capture that is read segment by segment.
-use Rattle.std.proofs.Common.{◌≡◌, ◌≢◌, ℕ, ◌+◌, ◌≤◌, ◌<◌, List, [], ◌∷◌, ◌++◌, length, refl, arith}
-use Rattle.std.proofs.Common.{Option, Some, None, Result, Ok, Err}
-use Rattle.std.proofs.lemmas.List.Sums.{sum_by_push}
+use Rattle.std.proofs.Common.{◌≡◌, ◌≢◌, ℕ, List, [], ◌++◌, refl}
+use Rattle.std.proofs.Common.{sym, ap, ◌∙◌, append_assoc, inl, inr}
+use Rattle.std.proofs.Common.{Option, Some, Ok, Err}
+use Rattle.std.proofs.lemmas.List.Concat.{flat_map-append}
+use Rattle.std.specs.List.{flat_map}
+use Rattle.plum_base.specs.declared.sites.StationSite.{StationSite}
 use Rattle.plum_packet.specs.declared.records.Progress.{Progress}
 use Rattle.plum_packet.specs.declared.records.Progress.TheVariants.{Open, Ended, Over}
-use Rattle.plum_packet.specs.declared.segment.Segment.{Segment}
 use Rattle.plum_packet.specs.declared.segments.SegmentFault.{SegmentFault}
 use Rattle.plum_packet.specs.declared.segments.SegmentFault.TheVariants as segments
+use Rattle.plum_packet.specs.Capture.{record_of, IsBody}
+use Rattle.plum_packet.specs.Reading.{HasGiven, IsGiven, TakesRecords}
+use Rattle.plum_packet.specs.Records.{RecordsView, tail_of}
+use Rattle.plum_packet.specs.Segments.{Decoded}
 use Rattle.plum_replay.specs.declared.fault.ReplayFault.TheVariants.{Read, Limit}
-use Rattle.plum_replay.specs.Captured.{all_bodies_in}
+use Rattle.plum_replay.specs.Begun.{AreCut, AreTaken}
 use Rattle.plum_replay.specs.Faults.{fault_of_segments}
+use Rattle.plum_replay.proofs.Lists.{All-front}
 
 -- a reader that has not ended, nor met a record too many
 pub is_open : (p : Progress) → p ≢ Over → p ≢ Ended → p ≡ Open
@@ -28,34 +35,80 @@ from_limit segments.Read e = absurd cc
 from_limit segments.Limit e = refl
 from_limit segments.NoMemory e = absurd cc
 
--- one segment more
-pub bodies-push : (ss : List Segment) (s : Segment)
-    → all_bodies_in (ss ++ s ∷ [])
-    ≡ all_bodies_in ss + (length s.packets.items + length s.refused.items)
-bodies-push ss s =
-    sum_by_push (λ (s : Segment). length s.packets.items + length s.refused.items) ss s
-
--- how many segments may still come beside those that take a record
-abbrev pub last_left : Progress → ℕ
-last_left Open = 1
-last_left Ended = 0
-last_left Over = 0
-
--- one segment more, where one could come
-pub count_more : (segments given now : ℕ) (before after : Progress) → before ≡ Open
-    → segments + last_left before ≤ given + 1 → given ≤ now → (after ≡ Open → given < now)
-    → segments + 1 + last_left after ≤ now + 1
-count_more segments given now before Open was_open few rising more =
-    omega (arith, rw was_open at few, more refl)
-count_more segments given now before Ended was_open few rising more =
-    omega (arith, rw was_open at few)
-count_more segments given now before Over was_open few rising more =
-    omega (arith, rw was_open at few)
-
 -- no value of a result and none of another
 pub ok_differs : {T E : Type 0} {a : T} {e : E} → Err e ≡ Ok a → ⊥
 ok_differs e = absurd cc
 
-pub some_differs : {T E : Type 0} {a : T} {found : Option T} → (result : Result (Option T) E)
-    → result ≡ Ok found → result ≡ Ok None → found ≡ Some a → ⊥
-some_differs result was none is = absurd cc
+-- Nothing was read of the capture: no segment lies in it.
+pub none_cut : (stations : List StationSite) (capture : List ℕ) (left : Option (List ℕ))
+    → left ≡ Some capture → AreCut stations capture left []
+none_cut stations capture left told = record {
+  bodies = [];
+  ahead = [];
+  rest = capture;
+  told = told;
+  records = record { spelled = refl; lengths = tt };
+  cut = [];
+  cut_is = λ later. refl;
+  decoded = tt;
+}
+
+-- The segments that were given lie in what was taken,
+given_are_cut : (stations : List StationSite) (capture : List ℕ)
+    (given : List (List Decoded)) (reader : RecordsView) (left : Option (List ℕ))
+    → HasGiven stations capture given reader left → AreCut stations capture left given
+given_are_cut stations capture given reader left was = record {
+  bodies = was.bodies;
+  ahead = reader.ahead;
+  rest = was.stands.rest;
+  told = was.stands.told;
+  records = was.stands.records;
+  cut = was.cut;
+  cut_is = was.cut_is;
+  decoded = was.decoded;
+}
+
+-- also where more was taken behind them
+pub given_stay_cut : (stations : List StationSite) (capture : List ℕ)
+    (given : List (List Decoded)) (reader : RecordsView) (left : Option (List ℕ))
+    (after : RecordsView) (left_after : Option (List ℕ))
+    → HasGiven stations capture given reader left → TakesRecords reader left after left_after
+    → AreCut stations capture left_after given
+given_stay_cut stations capture given reader left after left_after was takes =
+    let taken = takes capture was.bodies was.stands in
+    let more = taken.0 in
+    let stands = taken.1 in
+    let front = flat_map record_of was.bodies in
+    let others = flat_map record_of more in
+    record {
+      bodies = was.bodies;
+      ahead = others ++ after.ahead;
+      rest = stands.rest;
+      told = stands.told;
+      records = record {
+        spelled =
+            stands.records.spelled
+            ∙ ap (λ bytes. bytes ++ (after.ahead ++ stands.rest))
+            (flat_map-append record_of was.bodies more)
+            ∙ append_assoc front others (after.ahead ++ stands.rest)
+            ∙ ap (λ bytes. front ++ bytes) (sym (append_assoc others after.ahead stands.rest));
+        lengths = All-front IsBody was.bodies more stands.records.lengths;
+      };
+      cut = was.cut;
+      cut_is = was.cut_is;
+      decoded = was.decoded;
+    }
+
+-- whichever was the last
+pub given_are_taken : (stations : List StationSite) (capture : List ℕ)
+    (given : List (List Decoded)) (reader : RecordsView) (left : Option (List ℕ))
+    → reader.progress ≢ Over → IsGiven stations capture given reader left
+    → AreTaken stations capture left given
+given_are_taken stations capture given reader left within was = by_progress reader.progress refl
+  where
+    by_progress : (p : Progress) → reader.progress ≡ p → AreTaken stations capture left given
+    by_progress Open is = inl (given_are_cut stations capture given reader left (was.more is))
+    by_progress Ended is =
+        let all = was.last is in
+        inr (tail_of reader, record { none_left = all.1; capture_is = all.0 })
+    by_progress Over is = absurd (within is)

@@ -1,5 +1,7 @@
 pub mod Capturing
-pub mod Takings
+pub mod Stopping
+pub mod Segmented
+pub mod Starting
 pub mod Lists
 pub mod ByNumber
 pub mod SameEntries
@@ -11,8 +13,15 @@ pub mod ToldReplay
 pub mod PartTexts
 pub mod Marks
 pub mod Numbered
+pub mod ByLanes
+pub mod Looking
+pub mod Rounding
+pub mod Standing
 pub mod OneMore
+pub mod Adding
 pub mod Beginnings
 pub mod Writings
 pub mod Endings
-pub mod Stopping
+pub mod Sharing
+pub mod Worked
+pub mod Feeding

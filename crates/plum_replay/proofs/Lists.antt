@@ -1,5 +1,6 @@
 -- Lists of which something holds element by element.
 use Rattle.std.proofs.Common.{◌≡◌, ℕ, zero, suc, Bool, List, [], ◌∷◌, ◌++◌, length, map, filter}
+use Rattle.std.proofs.Common.{◌<◌}
 use Rattle.std.proofs.Common.{slice_get, Some, sum_by, refl, subst, arith}
 use Rattle.std.proofs.lemmas.List.Elements.{recursion_from_All, All-from_recursion, All-filter}
 use Rattle.std.proofs.lemmas.List.Sums.{sum_by-cons}
@@ -76,3 +77,8 @@ sum_by-map f g (x ∷ xs) = omega (
   sum_by-cons g (f x) (map f xs),
   sum_by-cons (λ x. g (f x)) x xs,
 )
+
+-- An element, where there is one.
+pub some_of : {X : Type 0} (xs : List X) (i : ℕ) → i < length xs → X
+some_of [] i less = absurd (omega arith)
+some_of (x ∷ xs) i less = x

@@ -17,7 +17,7 @@ use Rattle.plum_alert.specs.Alerts.{alerts_of}
 use Rattle.plum_alert.specs.Desk.{DeskView}
 use Rattle.plum_alert.specs.Desk.{StandsFor as DeskStandsFor}
 use Rattle.plum_text.specs.Texts.{Section}
-use Rattle.plum_replay.specs.Centre.{AreDesks, AreNext, given_with}
+use Rattle.plum_replay.specs.Progress.{AreDesks, AreNext, given_with}
 use Rattle.plum_replay.specs.Sections.{of_area, AreSections}
 
 -- what stands at a place, as a list of one, or of none past the end

@@ -1,38 +1,40 @@
--- A centre that replays one segment more.
-use Rattle.std.proofs.Common.{◌≡◌, ℕ, ◌+◌, ◌-◌, List, [], ◌∷◌, ◌++◌, length, map, refl, sym, ap}
-use Rattle.std.proofs.Common.{subst}
-use Rattle.std.proofs.Common.{◌∙◌, arith, append-nil, Option, length-append, ap₂, slice_index_or}
+-- A replay that goes on by a round.
+use Rattle.std.proofs.Common.{◌≡◌, ℕ, ◌+◌, ◌-◌, ◌≤◌, Bool, List, [], ◌∷◌, ◌++◌, length}
+use Rattle.std.proofs.Common.{map, refl, sym, ap, ap₂, subst, ◌∙◌, arith, append-nil, length-append}
+use Rattle.std.proofs.Common.{slice_index_or}
 use Rattle.std.proofs.lemmas.List.{map-append, length_push, length-map}
 use Rattle.std.proofs.lemmas.List.Concat.{flat_map-append}
 use Rattle.std.specs.List.{flat_map}
 use Rattle.plum_base.specs.declared.answers.Reading.{Reading}
 use Rattle.plum_base.specs.declared.counts.Counts.{Counts}
-use Rattle.plum_base.specs.declared.entry.Entry.{Entry}
 use Rattle.plum_base.specs.declared.packet.Packet.{Packet}
-use Rattle.plum_base.specs.declared.rules.Alert.{Alert}
+use Rattle.plum_base.specs.declared.packet.RefusedBody.{RefusedBody}
 use Rattle.plum_base.specs.declared.setup.Setup.{Setup}
+use Rattle.plum_base.specs.Note.{note_of}
 use Rattle.plum_base.specs.Sites.{SitesView}
-use Rattle.plum_core.specs.Keys.{kept_after}
 use Rattle.plum_packet.specs.Counts.{counts_in}
 use Rattle.plum_packet.specs.Laws.{CountsGoOn}
 use Rattle.plum_packet.specs.Segments.{Decoded, packets_in, refused_in}
 use Rattle.plum_packet.proofs.Taking.{all_decoded}
-use Rattle.plum_core.specs.History.{IsValidHistory, packet_of}
-use Rattle.plum_core.specs.Laws.{PartIsKept, PartJoins, ReadingsJoin, OverIsFrom}
-use Rattle.plum_core.specs.Station.{HasTaken, size_of}
-use Rattle.plum_core.specs.Transcript.{Transcript, IsLegal, IsLegalOver, AreReadingsOver}
-use Rattle.plum_core.specs.Transcript.{journal_of, of_lane, HoldsByLane, with_part}
-use Rattle.plum_core.specs.Transcript.{with_readings}
-use Rattle.plum_board.specs.Board.{StandsFor}
+use Rattle.plum_core.specs.History.{IsValidHistory}
+use Rattle.plum_core.specs.Keys.{kept_after}
+use Rattle.plum_core.specs.Laws.{PartJoins, PartIsCounted, PartAdds}
+use Rattle.plum_core.specs.Transcript.{Transcript, IsLegalOver, AreReadingsFrom}
+use Rattle.plum_core.specs.Transcript.{journal_of, HoldsByLane, with_part}
 use Rattle.plum_alert.specs.Desk.{StandsFor as DeskStandsFor}
-use Rattle.plum_base.specs.Note.{note_of}
-use Rattle.plum_text.specs.Texts.{Section, journal_text}
-use Rattle.plum_replay.specs.declared.centre.Centre.{Centre}
-use Rattle.plum_replay.specs.declared.centre.Told.{Told}
-use Rattle.plum_replay.specs.Centre.{AreDesks, AreNext, given_with, HasReplayed, ReplaysOneMore}
+use Rattle.plum_lanes.specs.Gathering.{gathered}
+use Rattle.plum_centre.specs.declared.centre.Centre.{Centre}
+use Rattle.plum_centre.specs.Centre.{CentreId}
+use Rattle.plum_text.specs.Texts.{Section, journal_text, totals_of}
+use Rattle.plum_replay.specs.declared.progress.Counted.{Counted}
+use Rattle.plum_replay.specs.declared.progress.Progress.{Progress}
+use Rattle.plum_replay.specs.Between.{GoesOnBy, last_readings}
 use Rattle.plum_replay.specs.Parts.{notes_text, section_text, sections_text}
+use Rattle.plum_replay.specs.Progress.{AreDesks, both, IsAt, HasWorkedOn, HasTold}
+use Rattle.plum_replay.specs.Progress.{TakesOneMore, TellsMark}
 use Rattle.plum_replay.specs.Sections.{of_area, AreSections}
-use Rattle.plum_replay.proofs.Marks.{of_area-push, AreSections-push, AreSections-length}
+use Rattle.plum_replay.proofs.Marks.{of_area-push, AreSections-push}
+use Rattle.plum_replay.proofs.Marks.{AreSections-length}
 use Rattle.plum_replay.proofs.PartTexts.{journal_text-push, sections_text-push, totals_of-push}
 
 -- the packets of segments, joined
@@ -47,219 +49,191 @@ flat-push : {X Y : Type 0} (f : X → List Y) (xs : List X) (x : X)
 flat-push f xs x =
     flat_map-append f xs (x ∷ []) ∙ ap (λ l. flat_map f xs ++ l) (append-nil (f x))
 
--- the journal with one part more
-pub journal-push : (t : Transcript) (part : List Entry)
-    → journal_of (with_part t part) ≡ journal_of t ++ part
-journal-push t part = flat-push (λ part. part) t.parts part
+-- the counts of so many packets, of which so many are kept, and so many refused bodies
+abbrev pub counts_by : ℕ → ℕ → ℕ → Counts
+counts_by packets kept refused = record {
+  bodies = packets + refused;
+  kept = kept;
+  repeats = packets - kept;
+  refused = refused;
+}
 
--- the counts of a segment, by those of what it holds
-pub counted_in : (decoded : List Decoded) (part : List Entry) (counts : Counts) (p k r : ℕ)
-    → counts ≡ record { bodies = p + r; kept = k; repeats = p - k; refused = r }
-    → p ≡ length (packets_in decoded) → k ≡ length part → r ≡ length (refused_in decoded)
-    → counts ≡ record {
-      bodies = length decoded;
-      kept = length part;
-      repeats = length (packets_in decoded) - length part;
+pub counts_alike : (p q k l r s : ℕ) → p ≡ q → k ≡ l → r ≡ s → counts_by p k r ≡ counts_by q l s
+counts_alike p q k l r s packets kept refused =
+    ap (λ p. counts_by p k r) packets ∙ ap (λ k. counts_by q k r) kept ∙ ap (counts_by q l) refused
+
+-- those of a segment, by what it holds
+counted_in : (decoded : List Decoded) (kept : List Packet) (k : ℕ) → k ≡ length kept
+    → counts_by (length (packets_in decoded)) k (length (refused_in decoded))
+    ≡ counts_in decoded kept
+counted_in decoded kept k same =
+    let made : ℕ → ℕ → Counts = λ b k. record {
+      bodies = b;
+      kept = k;
+      repeats = length (packets_in decoded) - k;
       refused = length (refused_in decoded);
-    }
-counted_in decoded part counts p k r value packets kept refused =
-    let made : ℕ → ℕ → ℕ → ℕ → Counts = λ b p k r.
-    record { bodies = b; kept = k; repeats = p - k; refused = r } in
-    let bodies : p + r ≡ length decoded = omega (arith, packets, refused, all_decoded decoded) in
-    value
-    ∙ ap (λ b. made b p k r) bodies
-    ∙ ap (λ p. made (length decoded) p k r) packets
-    ∙ ap (λ k. made (length decoded) (length (packets_in decoded)) k r) kept
-    ∙ ap (made (length decoded) (length (packets_in decoded)) (length part)) refused
+    } in
+    ap₂ made (sym (all_decoded decoded)) same
 
 -- what was written where nothing stood before
 pub written : (out old lines same : List ℕ) → out ≡ old ++ lines → old ≡ [] → lines ≡ same
     → out ≡ same
 written out old lines same appended empty is = appended ∙ ap (λ l. l ++ lines) empty ∙ is
 
--- What is known of the laws.
-pub record Laws : Type 0 where
-  pub part_is_kept : PartIsKept
-  pub part_joins : PartJoins
-  pub readings_join : ReadingsJoin
-  pub over_is_from : OverIsFrom
-  pub counts_go_on : CountsGoOn
+module _ (part_joins : PartJoins) (part_counted : PartIsCounted) (part_adds : PartAdds)
+    (id : CentreId) (setup : Setup) (sites : SitesView) (segments : List (List Decoded))
+    (read : ℕ) (t : Transcript) (segment : List Decoded) (reads : Bool)
+    (before : Progress) (first : Centre) (few : read ≤ length segments)
+    (was : HasWorkedOn id setup sites segments read t before first)
+    (after : Progress) (centre : Centre)
+    (goes : GoesOnBy id (flat_map packets_in segments) (packets_in segment) reads first centre)
+    (lines : List ℕ) (ahead : Counted)
+    (lines_are : lines ≡ notes_text sites.stations (before.segments + 1) (before.counts.kept + 1)
+    (map note_of goes.part))
+    (counts_are : ahead.counts
+    ≡ counts_by (length (packets_in segment)) (length goes.part) (length (refused_in segment)))
+    (refused_are : ahead.refused.items ≡ refused_in segment)
+    (summed : after.counts ≡ both before.counts ahead.counts)
+    (number : after.segments ≡ before.segments + 1)
+    (then : IsAt id setup sites (flat_map packets_in segments ++ packets_in segment) after centre)
+  where
+    abbrev packets : List Packet
+    packets = flat_map packets_in segments
 
-module _ (laws : Laws) (setup : Setup) (sites : SitesView) (segments : List (List Decoded))
-    (t : Transcript) (sections : List Section) (decoded : List Decoded) (before : Centre)
-    (was : HasReplayed before setup sites segments t sections) where
-  abbrev pub packets : List Packet
-  packets = flat_map packets_in segments
-
-  -- the packets that are kept of the segment
-  abbrev pub kept : List Packet
-  kept = kept_after packets (packets_in decoded)
-
-  -- What a step of a centre gave, piece by piece.
-  pub record Steps (after : Centre) (told : Told) (part : List Entry) (readings : List Reading)
-      (alerts : List (Option Alert)) (counts : Counts) : Type 0 where
-    pub taken : HasTaken after.network setup (packets ++ packets_in decoded) (journal_of t ++ part)
-    pub size : size_of after.network ≡ length sites.stations
-    pub board : StandsFor after.board sites (journal_of t ++ part)
-    pub read : AreReadingsOver sites (journal_of t ++ part) readings
-    pub next : AreNext setup.rules (λ a. of_area a t.readings) readings alerts
-    pub desks : AreDesks after.desks.items setup.rules
-        (given_with (λ a. of_area a t.readings) readings)
-    pub counted : counts ≡ record {
-      bodies = length decoded;
-      kept = length part;
-      repeats = length (packets_in decoded) - length part;
-      refused = length (refused_in decoded);
-    }
-    pub summed : after.counts ≡ record {
-      bodies = before.counts.bodies + counts.bodies;
-      kept = before.counts.kept + counts.kept;
-      repeats = before.counts.repeats + counts.repeats;
-      refused = before.counts.refused + counts.refused;
-    }
-    pub number : after.segments ≡ before.segments + 1
-    pub journal : told.journal ≡ notes_text sites.stations (before.segments + 1)
-        (before.counts.kept + 1) (map note_of part)
-    pub section : told.section ≡ section_text sites.targets (before.segments + 1) (record {
-      counts = counts;
-      refused = refused_in decoded;
-      readings = readings;
-      alerts = alerts;
-    })
-
-  module _ (after : Centre) (told : Told) (part : List Entry) (readings : List Reading)
-      (alerts : List (Option Alert)) (counts : Counts)
-      (steps : Steps after told part readings alerts counts) where
-    abbrev all : List (List Decoded)
-    all = segments ++ decoded ∷ []
-
-    -- the section of the segment's mark
-    abbrev section : Section
-    section = record {
-      counts = counts;
-      refused = refused_in decoded;
-      readings = readings;
-      alerts = alerts;
-    }
-
-    mapped : map packets_in all ≡ map packets_in segments ++ packets_in decoded ∷ []
-    mapped = map-append packets_in segments (decoded ∷ [])
-
-    -- the entries of the part are those of the kept packets
-    kept_of_part : map packet_of part ≡ kept
-    unfolding kept_after
-    kept_of_part = laws.part_is_kept (journal_of t) part packets (packets_in decoded)
-        was.network.holds steps.taken.holds
-
-    kept_count : length part ≡ length kept
-    kept_count = sym (length-map part packet_of) ∙ ap length kept_of_part
-
-    counts_are : counts ≡ counts_in decoded kept
-    counts_are = steps.counted ∙ ap (λ n. record {
-      bodies = length decoded;
-      kept = n;
-      repeats = length (packets_in decoded) - n;
-      refused = length (refused_in decoded);
-    }) kept_count
-
-    with_entries : IsLegalOver setup sites (map packets_in all) (length segments)
-        (with_part t part)
-    with_entries =
-        let holds = subst (λ ps. HoldsByLane setup.lanes part (kept_after ps (packets_in decoded)))
-        (sym (flat_packets segments)) (λ lane. ap (of_lane setup.lanes lane) kept_of_part) in
-        let valid = subst (λ n. IsValidHistory setup n (journal_of t ++ part)) steps.size
-        steps.taken.valid in
-        subst (λ n. IsLegalOver setup sites (map packets_in all) n (with_part t part))
-        (length-map segments packets_in)
-        (subst (λ ps. IsLegalOver setup sites ps (length (map packets_in segments))
-        (with_part t part)) (sym mapped)
-        (laws.part_joins setup sites (map packets_in segments) (length (map packets_in segments)) t
-        (packets_in decoded) part (omega arith) was.legal holds valid))
+    -- the packets that are kept of the segment
+    abbrev kept : List Packet
+    kept = kept_after packets (packets_in segment)
 
     abbrev after_part : Transcript
-    after_part = with_part t part
+    after_part = with_part t goes.part
 
-    abbrev after_mark : Transcript
-    after_mark = with_readings after_part readings
+    setup_is : id.opening.basis.setup ≡ setup
+    setup_is = ap (λ basis. basis.setup) was.at.of.basis_is
 
-    journal_is : journal_of after_part ≡ journal_of t ++ part
-    journal_is = journal-push t part
+    kept_by_lane : HoldsByLane setup.lanes goes.part kept
+    kept_by_lane = subst (λ (s : Setup). HoldsByLane s.lanes goes.part kept) setup_is goes.kept
 
-    legal : IsLegal setup sites (map packets_in all) after_mark
+    journal_is : journal_of after_part ≡ journal_of t ++ goes.part
+    journal_is = (part_adds t goes.part).0
+
+    gathered_is : gathered centre.feeder.gather ≡ journal_of t ++ goes.part
+    gathered_is = goes.grew ∙ ap (λ es. es ++ goes.part) was.journal
+
+    valid : IsValidHistory setup (length sites.stations) (journal_of t ++ goes.part)
+    valid =
+        let whole = goes.between.whole.lanes_are.gather_is.valid in
+        let stations : id.opening.basis.stations ≡ length sites.stations =
+        ap (λ basis. basis.stations) was.at.of.basis_is in
+        subst (IsValidHistory setup (length sites.stations)) gathered_is
+        (subst (λ n. IsValidHistory setup n (gathered centre.feeder.gather)) stations
+        (subst (λ s. IsValidHistory s id.opening.basis.stations (gathered centre.feeder.gather))
+        setup_is whole))
+
+    mapped : map packets_in (segments ++ segment ∷ [])
+        ≡ map packets_in segments ++ packets_in segment ∷ []
+    mapped = map-append packets_in segments (segment ∷ [])
+
+    legal : IsLegalOver setup sites (map packets_in (segments ++ segment ∷ [])) read after_part
     legal =
-        let over = subst (λ h. AreReadingsOver sites h readings) (sym journal_is) steps.read in
-        let read = length segments in
-        let one_more : length (map packets_in all) ≡ read + 1 =
-        length-map all packets_in ∙ length_push segments decoded in
-        subst (λ n. IsLegalOver setup sites (map packets_in all) n after_mark) (sym one_more)
-        (laws.readings_join setup sites (map packets_in all) read after_part readings
-        (omega arith) (omega arith) with_entries
-        (laws.over_is_from sites after_part (read + 1) readings over))
+        let holds = subst (λ ps. HoldsByLane setup.lanes goes.part
+        (kept_after ps (packets_in segment))) (sym (flat_packets segments)) kept_by_lane in
+        subst (λ ps. IsLegalOver setup sites ps read after_part) (sym mapped)
+        (part_joins setup sites (map packets_in segments) read t (packets_in segment) goes.part
+        (omega (arith, few, length-map segments packets_in)) was.legal holds valid)
 
-    desks_are : AreDesks after.desks.items setup.rules
-        (λ a. of_area a (t.readings ++ readings ∷ []))
-    desks_are a d listed = subst (DeskStandsFor (slice_index_or after.desks.items a d) setup.rules)
-        (sym (of_area-push a t.readings readings)) (steps.desks a d listed)
+    kept_count : length goes.part ≡ length kept
+    kept_count = part_counted setup goes.part kept kept_by_lane
 
-    replayed : HasReplayed after setup sites all after_mark (sections ++ section ∷ [])
-    unfolding kept_after
-    replayed =
-        let taken = subst (λ ps. HasTaken after.network setup ps (journal_of t ++ part))
-        (sym (flat-push packets_in segments decoded)) steps.taken in
-        let goes_on = laws.counts_go_on segments decoded in
-        let made : Counts → Section = λ c. record {
-          counts = c;
-          refused = refused_in decoded;
-          readings = readings;
-          alerts = alerts;
-        } in
+    worked : HasWorkedOn id setup sites (segments ++ segment ∷ []) read after_part after centre
+    worked = record {
+      at = subst (λ ps. IsAt id setup sites ps after centre)
+          (sym (flat-push packets_in segments segment)) then;
+      journal = gathered_is ∙ sym journal_is;
+      legal = legal;
+      number = omega (arith, number, was.number, length_push segments segment);
+      parts = omega (arith, was.parts, length_push segments segment, length_push t.parts goes.part);
+      kept = omega (
+        arith,
+        ap (λ (c : Counts). c.kept) summed,
+        ap (λ (c : Counts). c.kept) counts_are,
+        was.kept,
+        ap length journal_is,
+        length-append (journal_of t) goes.part,
+      );
+    }
+
+    -- One segment more is worked on.
+    pub takes : TakesOneMore id setup sites segments read t segment reads before lines ahead after
+        centre
+    takes =
+        let at : before.segments ≡ length t.parts = was.number ∙ sym was.parts in
         record {
-          network = subst (HasTaken after.network setup (flat_map packets_in all))
-              (sym journal_is) taken;
-          board = subst (StandsFor after.board sites) (sym journal_is) steps.board;
-          desks = desks_are;
-          legal = legal;
-          sections_are = subst (λ s. AreSections setup.rules all (t.readings ++ readings ∷ [])
-              (sections ++ s ∷ [])) (ap made (sym counts_are))
-              (AreSections-push setup.rules segments t.readings sections decoded kept readings
-              alerts was.sections_are goes_on steps.next);
-          number = omega (arith, steps.number, was.number, length_push segments decoded);
-          parts = omega (arith, was.parts, length_push segments decoded, length_push t.parts part);
-          counts = steps.summed
-              ∙ ap (λ c. record {
-                bodies = c.bodies + counts.bodies;
-                kept = c.kept + counts.kept;
-                repeats = c.repeats + counts.repeats;
-                refused = c.refused + counts.refused;
-              }) was.counts
-              ∙ sym (totals_of-push sections section);
-          kept = omega (
-            arith,
-            ap (λ c. c.kept) steps.summed,
-            ap (λ c. c.kept) steps.counted,
-            was.kept,
-            ap length journal_is,
-            length-append (journal_of t) part,
-          );
-        }
-
-    -- One segment more is replayed.
-    pub replays : ReplaysOneMore setup sites segments t sections decoded after told
-    replays =
-        let number : before.segments ≡ length t.parts = was.number ∙ sym was.parts in
-        let same = AreSections-length setup.rules segments t.readings sections was.sections_are in
-        let at : before.segments ≡ length sections = was.number ∙ sym same in
-        record {
-          part = part;
-          readings = readings;
-          section = section;
-          with_entries = with_entries;
-          replayed = replayed;
-          journal_more = journal_text-push sites.stations t.parts part
-              ∙ ap (λ more. journal_text sites.stations t.parts ++ more) (sym (steps.journal
-              ∙ ap₂ (λ m n. notes_text sites.stations (m + 1) (n + 1) (map note_of part)) number
+          part = goes.part;
+          worked = worked;
+          journal_more = journal_text-push sites.stations t.parts goes.part
+              ∙ ap (λ more. journal_text sites.stations t.parts ++ more) (sym (lines_are
+              ∙ ap₂ (λ m n. notes_text sites.stations (m + 1) (n + 1) (map note_of goes.part)) at
               was.kept));
-          output_more = sections_text-push sites.targets sections section
-              ∙ ap (λ more. sections_text sites.targets sections ++ more) (sym (steps.section
-              ∙ ap (λ m. section_text sites.targets (m + 1) section) at));
+          counts_ahead = counts_are ∙ counted_in segment kept (length goes.part) kept_count;
+          refused_ahead = refused_are;
+          counts = summed;
+          read_beside = λ r.
+              subst (λ es. AreReadingsFrom sites (length (journal_of t)) es
+              (last_readings centre.sessions.items)) (gathered_is ∙ sym journal_is)
+              (subst (λ es. AreReadingsFrom sites (length es) (gathered centre.feeder.gather)
+              (last_readings centre.sessions.items)) was.journal
+              (subst (λ s. AreReadingsFrom s (length (gathered first.feeder.gather))
+              (gathered centre.feeder.gather) (last_readings centre.sessions.items))
+              was.at.of.sites_are (goes.read r)));
         }
+
+-- The readings at a mark join: the sections have one more, and the desks were given them.
+module _ (goes_on : CountsGoOn) (setup : Setup) (sites : SitesView) (done : List (List Decoded))
+    (last : List Decoded) (t_readings : List (List Reading)) (sections : List Section)
+    (before : Progress) (counted : Counted)
+    (was : HasTold setup done last t_readings sections before counted)
+    (m : ℕ) (at : m ≡ length done + 1) (readings : List Reading) (after : Progress)
+    (text : List ℕ)
+    (tells : TellsMark setup.rules (λ a. of_area a t_readings) sites.targets m counted readings
+    after.desks.items text) where
+  -- the section of the mark
+  abbrev pub section_of : Section
+  section_of = record {
+    counts = counted.counts;
+    refused = counted.refused.items;
+    readings = readings;
+    alerts = tells.alerts;
+  }
+
+  pub sections_then : AreSections setup.rules (done ++ last ∷ []) (t_readings ++ readings ∷ [])
+      (sections ++ section_of ∷ [])
+  sections_then =
+      let kept = kept_after (flat_map packets_in done) (packets_in last) in
+      let made : Counts → List RefusedBody → Section = λ c r. record {
+        counts = c;
+        refused = r;
+        readings = readings;
+        alerts = tells.alerts;
+      } in
+      subst (λ s. AreSections setup.rules (done ++ last ∷ []) (t_readings ++ readings ∷ [])
+      (sections ++ s ∷ [])) (sym (ap₂ made was.counts_ahead was.refused_ahead))
+      (AreSections-push setup.rules done t_readings sections last kept readings tells.alerts
+      was.sections_are (goes_on done last) tells.next)
+
+  pub output_then : sections_text sites.targets (sections ++ section_of ∷ [])
+      ≡ sections_text sites.targets sections ++ text
+  output_then =
+      let same = AreSections-length setup.rules done t_readings sections was.sections_are in
+      let here : m ≡ length sections + 1 = omega (arith, at, same) in
+      sections_text-push sites.targets sections section_of
+      ∙ ap (λ more. sections_text sites.targets sections ++ more) (sym (tells.text_is
+      ∙ ap (λ n. section_text sites.targets n section_of) here))
+
+  pub desks_then : AreDesks after.desks.items setup.rules
+      (λ a. of_area a (t_readings ++ readings ∷ []))
+  desks_then a d listed = subst (DeskStandsFor (slice_index_or after.desks.items a d) setup.rules)
+      (sym (of_area-push a t_readings readings)) (tells.desks_are a d listed)
+
+  -- the counts of all segments are those of all sections
+  pub counts_then : before.counts ≡ totals_of (sections ++ section_of ∷ [])
+  counts_then = was.counts ∙ sym (totals_of-push sections section_of)

@@ -1,27 +1,55 @@
 -- What stands in the outputs of a replay that stopped.
-use Rattle.std.specs.Prelude.{◌≡◌, ◌==◌, ◌-◌, ◌⊎◌, if◌then◌else◌, ℕ, List, [], length, map, take}
+use Rattle.std.specs.Prelude.{◌≡◌, ◌-◌, ◌⊎◌, ◌≤◌, ℕ, List, [], ◌++◌, length, map, take, Option, Some}
+use Rattle.std.specs.List.{AllZip}
 use mathlib.Core.List.{IsPrefix}
 use Rattle.plum_base.specs.declared.entry.Entry.{Entry}
 use Rattle.plum_base.specs.declared.setup.Setup.{Setup}
-use Rattle.plum_base.specs.declared.sites.TargetSite.{TargetSite}
+use Rattle.plum_base.specs.declared.sites.StationSite.{StationSite}
 use Rattle.plum_base.specs.Sites.{SitesView}
 use Rattle.plum_host.specs.declared.host.In.TheVariants.{Capture}
 use Rattle.plum_host.specs.declared.host.To.TheVariants.{Out, Journal}
 use Rattle.plum_host.specs.Told.{HostView, WhereTold, Appends}
-use Rattle.plum_packet.specs.Segments.{Decoded, packets_in, IsCaptureOf}
-use Rattle.plum_core.specs.Transcript.{Transcript, IsLegalUpTo}
+use Rattle.plum_packet.specs.Capture.{AreRecords}
+use Rattle.plum_packet.specs.Reading.{IsCutInto}
+use Rattle.plum_packet.specs.Segments.{Decoded, packets_in, IsCaptureOf, IsDecodedSegment}
+use Rattle.plum_core.specs.Transcript.{Transcript, IsLegalOver}
 use Rattle.plum_text.specs.Texts.{Section, journal_text, out_text}
-use Rattle.plum_replay.specs.Captured.{IsReadToEnd, HasNoneTooMany}
 use Rattle.plum_replay.specs.Parts.{sections_text}
 use Rattle.plum_replay.specs.Sections.{AreSections}
 
--- the output of these sections of some of the marks; behind that of the last mark stand the tail
--- and the totals
-abbrev pub output_so_far : List TargetSite → List Section → ℕ → ℕ → List ℕ
-output_so_far targets sections marks tail =
-    if length sections == marks
-    then out_text targets sections tail
-    else sections_text targets sections
+-- Where this is left of the capture, its first records were taken, and they are cut into these
+-- segments, decoded, whatever comes behind them.
+pub record AreCut (stations : List StationSite) (capture : List ℕ) (left : Option (List ℕ))
+    (segments : List (List Decoded)) : Type 0 where
+  pub bodies : List (List ℕ)
+  pub ahead : List ℕ
+  pub rest : List ℕ
+  pub told : left ≡ Some rest
+  pub records : AreRecords capture bodies (ahead ++ rest)
+  pub cut : List (List (ℕ × List ℕ))
+  pub cut_is : IsCutInto bodies cut
+  pub decoded : AllZip (IsDecodedSegment stations) cut segments
+
+-- Nothing is left of the capture, and it is these segments, decoded, and a tail of this length.
+pub record AreAll (stations : List StationSite) (capture : List ℕ) (left : Option (List ℕ))
+    (segments : List (List Decoded)) (tail : ℕ) : Type 0 where
+  pub none_left : left ≡ Some []
+  pub capture_is : IsCaptureOf stations capture segments tail
+
+-- These segments lie in what was taken of the capture: its first ones, or all.
+abbrev pub AreTaken : List StationSite → List ℕ → Option (List ℕ) → List (List Decoded) → Type 0
+AreTaken stations capture left segments =
+    AreCut stations capture left segments ⊎ ((tail : ℕ) × AreAll stations capture left segments tail)
+
+-- the output of a transcript of the first k of the segments that were taken, with readings at so
+-- many marks: the sections of all but the last of these marks; where they are all and the last mark
+-- has readings too, the whole output
+abbrev pub IsOutputSoFar : SitesView → List ℕ → Option (List ℕ) → List (List Decoded) → ℕ → ℕ
+    → List Section → List ℕ → Type 0
+IsOutputSoFar sites capture left segments k read sections output =
+    ((read ≡ k - 1) × (output ≡ sections_text sites.targets sections))
+    ⊎ ((tail : ℕ) × AreAll sites.stations capture left segments tail × (k ≡ length segments)
+    × (read ≡ k) × (output ≡ out_text sites.targets sections tail))
 
 -- Of a journal up to the k-th segment, and of an output, this much is written in order: a section
 -- is begun where the journal lines of the segment after its own stand whole; that of the last mark,
@@ -33,49 +61,37 @@ AreInOrder sites k parts sections journal output =
     ⊎ (IsPrefix (journal_text sites.stations (take (k - 1) parts)) journal
     × IsPrefix output (sections_text sites.targets (take (k - 2) sections)))
 
--- The journal and the output begin the two texts of one transcript, which is legal up to the k-th
--- segment of the capture, and are written in order.
-pub record IsBegun (setup : Setup) (sites : SitesView)
-    (capture journal output : List ℕ) : Type 0 where
+-- The journal and the output begin the two texts of one transcript, and are written in order. It is
+-- legal up to the k-th segment, and the segments up to there lie in what was taken of the capture.
+-- The readings at the last mark of a capture are made behind its whole journal: until then it has
+-- those at the marks before, and the output no more than their sections. With the predictions over
+-- the whole journal as readings at that mark it is legal to the end.
+pub record IsBegun (setup : Setup) (sites : SitesView) (capture : List ℕ)
+    (left : Option (List ℕ)) (journal output : List ℕ) : Type 0 where
   pub segments : List (List Decoded)
-  pub tail : ℕ
-  pub capture_is : IsCaptureOf sites.stations capture segments tail
+  pub taken : AreTaken sites.stations capture left segments
   pub k : ℕ
+  pub within : k ≤ length segments
+  pub read : ℕ
   pub transcript : Transcript
-  pub legal : IsLegalUpTo k setup sites (map packets_in segments) transcript
+  pub legal : IsLegalOver setup sites (take k (map packets_in segments)) read transcript
   pub sections : List Section
-  pub sections_are : AreSections setup.rules (take (length transcript.readings) segments)
-      transcript.readings sections
+  pub sections_are : AreSections setup.rules (take read segments) transcript.readings sections
+  pub whole_output : List ℕ
+  pub output_is : IsOutputSoFar sites capture left segments k read sections whole_output
   pub journal_begun : IsPrefix journal (journal_text sites.stations transcript.parts)
-  pub output_begun :
-      IsPrefix output (output_so_far sites.targets sections (length segments) tail)
+  pub output_begun : IsPrefix output whole_output
   pub in_order : AreInOrder sites k transcript.parts sections journal output
 
 -- The beginnings of two such texts are appended.
-abbrev pub AppendsBegun : Setup → SitesView → List ℕ → HostView → HostView → Type 0
-AppendsBegun setup sites capture before after =
-    (journal : List ℕ) × (output : List ℕ) × IsBegun setup sites capture journal output
+abbrev pub AppendsBegun : Setup → SitesView → List ℕ → Option (List ℕ) → HostView → HostView
+    → Type 0
+AppendsBegun setup sites capture left before after =
+    (journal : List ℕ) × (output : List ℕ) × IsBegun setup sites capture left journal output
     × Appends (before.held Journal) (after.held Journal) journal
     × Appends (before.held Out) (after.held Out) output
 
--- So it is where the host tells the capture, which is read to its end and has no more records than
--- a replay takes.
+-- So it is where the host tells the capture.
 abbrev pub BeginsReplay : Setup → SitesView → HostView → HostView → Type 0
 BeginsReplay setup sites before after = WhereTold before Capture (λ capture.
-    AppendsBegun setup sites capture before after × IsReadToEnd after × HasNoneTooMany capture)
-
--- Nothing is appended to either output.
-pub record AppendsNothing (before after : HostView) : Type 0 where
-  pub journal : Appends (before.held Journal) (after.held Journal) []
-  pub output : after.held Out ≡ before.held Out
-
--- Nothing is appended, or the beginnings of the two texts are.
-abbrev pub StopsInOrder : Setup → SitesView → HostView → HostView → Type 0
-StopsInOrder setup sites before after =
-    AppendsNothing before after ⊎ BeginsReplay setup sites before after
-
--- Nothing of the capture is read; or, where the host tells it, it is read to its end, and has no
--- more records than a replay takes.
-abbrev pub StopsAtAnEnd : HostView → HostView → Type 0
-StopsAtAnEnd before after = (after.left Capture ≡ before.left Capture)
-    ⊎ WhereTold before Capture (λ capture. IsReadToEnd after × HasNoneTooMany capture)
+    AppendsBegun setup sites capture (after.left Capture) before after)

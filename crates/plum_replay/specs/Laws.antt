@@ -6,7 +6,7 @@ use Rattle.plum_base.specs.Levels.{IsLevelTable}
 use Rattle.plum_base.specs.Name.{IsName}
 use Rattle.plum_base.specs.Sites.{SitesView, AreLawful}
 use Rattle.plum_packet.specs.Capture.{AreBytes}
-use Rattle.plum_replay.specs.Captured.{HasNoneTooMany}
+use Rattle.plum_packet.specs.Reading.{HasNoneTooMany}
 use Rattle.plum_replay.specs.Replayed.{IsReplay}
 
 -- The targets' names and their areas' are names, as those of all real sites are: a ghost variable

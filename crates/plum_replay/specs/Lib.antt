@@ -3,9 +3,12 @@ pub mod Parts
 pub mod Faults
 pub mod Captured
 pub mod Areas
-pub mod Centre
-pub mod Taking
+pub mod Between
+pub mod Learning
+pub mod Progress
 pub mod Replayed
 pub mod Begun
 pub mod Written
 pub mod Laws
+pub mod Rounds
+pub mod Pieces

@@ -6,11 +6,15 @@ use Rattle.plum_base.specs.Sites.{SitesView}
 use Rattle.plum_host.specs.declared.host.In.TheVariants.{Capture}
 use Rattle.plum_host.specs.declared.host.To.TheVariants.{Out, Journal}
 use Rattle.plum_host.specs.Told.{HostView, WhereTold, Appends}
+use Rattle.plum_packet.specs.Reading.{HasNoneTooMany}
 use Rattle.plum_packet.specs.Segments.{Decoded, packets_in, IsCaptureOf}
 use Rattle.plum_core.specs.Transcript.{Transcript, IsLegal}
+use Rattle.plum_centre.specs.declared.centre.Centre.{Centre}
+use Rattle.plum_centre.specs.Centre.{CentreId}
 use Rattle.plum_text.specs.Texts.{Section, journal_text, out_text, totals_of}
 use Rattle.plum_replay.specs.declared.totals.Totals.{Totals}
-use Rattle.plum_replay.specs.Captured.{IsReadToEnd, HasNoneTooMany}
+use Rattle.plum_replay.specs.Captured.{IsReadToEnd}
+use Rattle.plum_replay.specs.Progress.{HoldsJournal}
 use Rattle.plum_replay.specs.Sections.{AreSections}
 
 -- The journal and the output are the two texts of one transcript, which is legal for the segments
@@ -65,3 +69,10 @@ pub record AppendsReplay (setup : Setup) (sites : SitesView) (totals : Totals)
 abbrev pub ReplaysCapture : Setup → SitesView → Totals → HostView → HostView → Type 0
 ReplaysCapture setup sites totals before after = WhereTold before Capture (λ capture.
     AppendsReplay setup sites totals capture before after)
+
+-- The centre holds the journal of the transcript whose texts are appended.
+abbrev pub ReplaysThrough : CentreId → Setup → SitesView → Totals → HostView → HostView → Centre
+    → Type 0
+ReplaysThrough id setup sites totals before after centre = WhereTold before Capture (λ capture.
+    (done : AppendsReplay setup sites totals capture before after)
+    × HoldsJournal id done.replay.transcript centre)

@@ -4,7 +4,7 @@ ghost use Rattle.std.specs.Prelude.{◌≡◌, ℕ, List, [], length, IfOk, OnOk
 ghost use Rattle.plum_base.specs.declared.answers.Reading.{Reading};
 ghost use Rattle.plum_base.specs.declared.rules.Rules.{Rules};
 ghost use Rattle.plum_base.specs.Setup.{AreDeskRules};
-ghost use Rattle.plum_replay.specs.Centre.{AreDesks, AreNext, given_with};
+ghost use Rattle.plum_replay.specs.Progress.{AreDesks, AreNext, given_with};
 
 use plum_alert::Desk;
 use plum_base::{Alert, NoMemory, Reading, Rules};

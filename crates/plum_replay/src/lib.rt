@@ -5,18 +5,21 @@
 #![tactic(auto)]
 
 mod areas;
-mod capture;
-mod centre;
+mod between;
 mod desks;
 mod fault;
+mod gate;
 mod journal;
 mod laws;
-mod reading;
+mod progress;
 mod replaying;
+mod round;
 mod section;
 mod totals;
+mod working;
 
 pub use fault::ReplayFault;
+pub use gate::{Gate, OpenGate};
 pub use laws::texts_tell_one_transcript;
 pub use replaying::replay;
 pub use totals::Totals;

@@ -5,7 +5,7 @@ use Rattle.plum_base.specs.declared.answers.Reading.{Reading}
 use Rattle.plum_base.specs.declared.rules.Rules.{Rules}
 use Rattle.plum_alert.specs.Alerts.{alerts_of}
 use Rattle.plum_alert.specs.Desk.{StandsFor as DeskStandsFor}
-use Rattle.plum_replay.specs.Centre.{AreDesks, given_with}
+use Rattle.plum_replay.specs.Progress.{AreDesks, given_with}
 use Rattle.plum_replay.proofs.Marks.{AreDesks-more, AreNext-more}
 use Rattle.plum_replay.proofs.desks.next_alerts.Goals as goal
 

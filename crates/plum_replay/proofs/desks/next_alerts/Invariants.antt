@@ -1,7 +1,7 @@
 use Rattle.std.proofs.Common.{◌≡◌, ℕ, List, length, take}
 use Rattle.plum_base.specs.declared.answers.Reading.{Reading}
 use Rattle.plum_base.specs.declared.rules.Rules.{Rules}
-use Rattle.plum_replay.specs.Centre.{AreDesks, AreNext, given_with}
+use Rattle.plum_replay.specs.Progress.{AreDesks, AreNext, given_with}
 use Rattle.plum_replay.proofs.desks.next_alerts.Given as goal
 
 abbrev pub invariant-loop-a : goal.invariant-loop-a

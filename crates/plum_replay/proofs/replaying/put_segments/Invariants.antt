@@ -1,33 +1,38 @@
-use Rattle.std.proofs.Common.{◌≡◌, ◌+◌, ◌≤◌, List, [], ◌++◌, length}
-use Rattle.std.specs.List.{AllZip}
-use Rattle.std.specs.Vec.Iter.{into_iter_items}
+use Rattle.std.proofs.Common.{◌≡◌, ◌≢◌, ◌+◌, ◌≤◌, List, []}
+use Rattle.plum_base.specs.declared.packet.Packet.{Packet}
 use Rattle.plum_base.specs.declared.setup.Setup.{Setup}
+use Rattle.plum_centre.specs.Centre.{CentreId}
+use Rattle.plum_host.specs.declared.host.In.TheVariants.{Capture}
 use Rattle.plum_host.specs.Counting.{CountsNothing}
-use Rattle.plum_host.specs.declared.host.In.{In}
-use Rattle.plum_packet.specs.Reading.{MOST_RECORDS, HoldsBodies}
-use Rattle.plum_packet.specs.Segments.{Decoded}
-use Rattle.plum_replay.specs.Captured.{all_bodies_in, HoldListed}
-use Rattle.plum_core.specs.Transcript.{no_transcript}
-use Rattle.plum_replay.specs.Centre.{IsCentreOf, HasReplayed}
-use Rattle.plum_replay.specs.Written.{HasWritten}
+use Rattle.plum_host.specs.Frames.{LeavesOtherInputs}
+use Rattle.plum_host.specs.Told.{WhereTold}
+use Rattle.plum_packet.specs.declared.records.Progress.TheVariants.{Over}
+use Rattle.plum_packet.specs.Reading.{MOST_RECORDS}
+use Rattle.plum_packet.specs.Records.{segments_left}
+use Rattle.plum_replay.specs.Progress.{IsAt, IsProgressOf, HasBegun}
+use Rattle.plum_replay.proofs.Segmented.{HasGone, HasRead}
 use Rattle.plum_replay.proofs.replaying.put_segments.Given as goal
 
-abbrev pub invariant-loop-segment : goal.invariant-loop-segment
-invariant-loop-segment g l =
-    let left = into_iter_items l.segment-iterator in
+abbrev pub invariant-rounds : goal.invariant-rounds
+invariant-rounds g l =
+    let first = g.H.Host.told l.fn.host in
+    let now = g.H.Host.told l.host in
     record {
-      of : IsCentreOf l.centre l.sites;
-      listed : HoldListed (length l.sites.stations) left;
-      few : l.centre.counts.bodies + all_bodies_in left ≤ MOST_RECORDS;
-      few_segments : l.centre.segments + length left ≤ MOST_RECORDS + 1;
-      written : (setup : Setup) (decoded : List (List Decoded))
-          → HasReplayed l.fn.centre setup l.sites [] no_transcript []
-          → AllZip HoldsBodies l.fn.segments.items decoded
-          → (done : List (List Decoded)) × (rest : List (List Decoded))
-          × (decoded ≡ done ++ rest) × AllZip HoldsBodies left rest
-          × HasWritten l.centre setup l.sites done l.section
-          (g.H.Host.told l.fn.host) (g.H.Host.told l.host);
-      counts : CountsNothing (g.H.Host.told l.fn.host) (g.H.Host.told l.host);
-      inputs : (input : In)
-          → (g.H.Host.told l.host).left input ≡ (g.H.Host.told l.fn.host).left input;
+      of : IsProgressOf l.progress l.sites;
+      at : (id : CentreId) (setup : Setup) → IsAt id setup l.sites [] l.fn.progress l.fn.centre
+          → (packets : List Packet) × IsAt id setup l.sites packets l.progress l.centre;
+      limit : l.reader.limit ≡ MOST_RECORDS;
+      within : l.reader.given ≤ MOST_RECORDS;
+      going : l.reader.progress ≢ Over;
+      bodies : l.progress.counts.bodies ≤ l.reader.given;
+      segments : l.progress.segments + segments_left l.reader ≤ MOST_RECORDS + 1;
+      given : WhereTold first Capture (HasGone l.sites l.reader now);
+      read : (id : CentreId) (setup : Setup) → HasBegun id setup l.sites l.fn.progress l.fn.centre
+          → WhereTold first Capture (HasRead id setup l.sites l.progress l.counted l.centre
+          l.reader first now);
+      counts : CountsNothing first now;
+      other_inputs : LeavesOtherInputs Capture first now;
     }
+
+abbrev pub decreases-rounds : goal.decreases-rounds
+decreases-rounds g l = segments_left l.reader

@@ -1,0 +1,111 @@
+-- The pieces of a round's work (the project's own): for the steps within a call.
+use Rattle.std.specs.Prelude.{◌≡◌, ℕ, ◌+◌, ◌<◌, ◌≤◌, true, List, ◌++◌, length, map}
+use Rattle.std.specs.Prelude.{slice_index_or, All, None}
+use Rattle.plum_base.specs.declared.packet.Packet.{Packet}
+use Rattle.plum_base.specs.Packet.{AreListed}
+use Rattle.plum_packet.specs.Reading.{MOST_RECORDS}
+use Rattle.plum_core.specs.Transcript.{of_lane}
+use Rattle.plum_lanes.specs.declared.lanes.Lane.{Lane}
+use Rattle.plum_lanes.specs.Gathering.{gathered, IsGather}
+use Rattle.plum_lanes.specs.Lanes.{waiting_in, HasTaken, IsForLane, AreFree}
+use Rattle.plum_lanes.specs.Opening.{Opening}
+use Rattle.plum_snap.specs.Sessions.{SessionView}
+use Rattle.plum_centre.specs.Feeder.{FeederView}
+use Rattle.plum_centre.specs.Turns.{GoesOn}
+use Rattle.plum_replay.specs.declared.round.looking.Watch.{Watch}
+use Rattle.plum_replay.specs.declared.round.taking.Share.{Share}
+use Rattle.plum_replay.specs.Rounds.{HasLooked, HasRoom}
+
+-- ---- a lane, with its packets
+
+-- The lane of this number can take these packets: they are for it, and nothing waits in it.
+pub record CanTake (opening : Opening) (number : ℕ) (packets : List Packet) (lane : Lane)
+    : Type 0 where
+  pub room : HasRoom opening number packets lane
+  pub free : waiting_in lane ≡ None
+  pub own : All (IsForLane opening number) packets
+
+-- It took them, behind whatever it had taken, and nothing waits in it.
+pub record TookMore (opening : Opening) (number : ℕ) (packets : List Packet) (before after : Lane)
+    : Type 0 where
+  pub taken : (taken : List Packet) → HasTaken opening number taken before
+      → HasTaken opening number (taken ++ packets) after
+  pub free : waiting_in after ≡ None
+
+abbrev pub CanTakePart : Opening → ℕ → Share → Type 0
+CanTakePart opening number share = CanTake opening number share.packets.items share.lane
+
+-- Where it is done, the lane took its packets.
+pub record TakesPart (number : ℕ) (before after : Share) : Type 0 where
+  pub took : (opening : Opening) → CanTakePart opening number before → after.done ≡ true
+      → TookMore opening number before.packets.items before.lane after.lane
+
+abbrev pub CanTakeParts : Opening → List Share → Type 0
+CanTakeParts opening shares =
+    (i : ℕ) (d : Share) → i < length shares
+    → CanTakePart opening i (slice_index_or shares i d)
+
+abbrev pub TakeParts : List Share → List Share → Type 0
+TakeParts before after =
+    (i : ℕ) (d : Share) → i < length before
+    → TakesPart i (slice_index_or before i d) (slice_index_or after i d)
+
+-- the lane of a share
+abbrev pub lane_in : Share → Lane
+lane_in share = share.lane
+
+-- These are the lanes, each with these packets, by its number.
+pub record AreShares (lanes : List Lane) (packets : ℕ → List Packet) (shares : List Share)
+    : Type 0 where
+  pub lanes_are : map lane_in shares ≡ lanes
+  pub each : (i : ℕ) (d : Share) → i < length shares
+      → (slice_index_or shares i d).packets.items ≡ packets i
+
+-- These lanes, which are all of the opening, can share these packets out.
+pub record CanShare (opening : Opening) (packets : List Packet) (lanes : List Lane) : Type 0 where
+  pub all : length lanes ≡ opening.basis.setup.lanes
+  pub listed : AreListed opening.basis.stations packets
+  pub free : AreFree lanes
+  pub room : (i : ℕ) (d : Lane) → i < length lanes
+      → HasRoom opening i packets (slice_index_or lanes i d)
+
+-- Each of them took its packets of these, and nothing waits in any.
+pub record HaveShared (opening : Opening) (packets : List Packet) (before after : List Lane)
+    : Type 0 where
+  pub long : length after ≡ length before
+  pub taken : (i : ℕ) (d : Lane) (taken : List Packet) → i < length before
+      → HasTaken opening i taken (slice_index_or before i d)
+      → HasTaken opening i (taken ++ of_lane opening.basis.setup.lanes i packets)
+      (slice_index_or after i d)
+  pub free : AreFree after
+
+-- ---- the feeder
+
+-- No more was gathered than a capture has, beside what is noted.
+abbrev pub GatheredFew : FeederView → Type 0
+GatheredFew feeder = length (gathered feeder.gather) ≤ MOST_RECORDS + length feeder.notes
+
+-- The feeder can turn: it is that of some opening, and gathered few.
+abbrev pub CanFeed : FeederView → Type 0
+CanFeed feeder = (opening : Opening) × IsGather opening feeder.gather × GatheredFew feeder
+
+-- It went on, and is that of the same opening.
+pub record HasFed (before after : FeederView) : Type 0 where
+  pub gather : (opening : Opening) → IsGather opening before.gather
+      → IsGather opening after.gather
+  pub goes_on : GoesOn before after
+
+-- ---- a session
+
+-- the session of a watch
+abbrev pub session_in : Watch → SessionView
+session_in watch = watch.session
+
+-- Where it is done, the session looked.
+abbrev pub Looks : Watch → Watch → Type 0
+Looks before after = after.done ≡ true → HasLooked before.session after.session
+
+abbrev pub AllLook : List Watch → List Watch → Type 0
+AllLook before after =
+    (a : ℕ) (d : Watch) → a < length before
+    → Looks (slice_index_or before a d) (slice_index_or after a d)

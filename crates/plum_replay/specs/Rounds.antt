@@ -1,0 +1,64 @@
+-- A round of a centre on threads (the project's own): its lanes take packets, its feeder publishes
+-- what they send, and its sessions read, side by side.
+use Rattle.std.specs.Prelude.{◌≡◌, ℕ, ◌+◌, ◌<◌, ◌≤◌, Bool, true, false, List, []}
+use Rattle.std.specs.Prelude.{◌++◌, length, slice_index_or}
+use mathlib.Core.List.{IsPrefix}
+use Rattle.plum_base.specs.declared.packet.Packet.{Packet}
+use Rattle.plum_base.specs.Packet.{AreListed}
+use Rattle.plum_packet.specs.Reading.{MOST_RECORDS}
+use Rattle.plum_core.specs.Transcript.{of_lane, IsReadingOver}
+use Rattle.plum_lanes.specs.declared.lanes.Lane.{Lane}
+use Rattle.plum_lanes.specs.Gathering.{gathered}
+use Rattle.plum_lanes.specs.Lanes.{HasTaken, AreFree}
+use Rattle.plum_lanes.specs.Opening.{Opening}
+use Rattle.plum_snap.specs.Sessions.{SessionView}
+use Rattle.plum_centre.specs.declared.centre.Centre.{Centre}
+use Rattle.plum_centre.specs.Centre.{CentreId, IsWhole}
+use Rattle.plum_centre.specs.Turns.{GoesOn}
+
+-- The session looked at what is published: it read one front, which begins with all that it had
+-- seen. It may have been shut out before.
+pub record HasLooked (before after : SessionView) : Type 0 where
+  pub goes_on : IsPrefix before.seen after.seen
+  pub over : IsReadingOver before.sites after.seen before.area after.last
+  pub same_publisher : after.publisher ≡ before.publisher
+  pub same_sites : after.sites ≡ before.sites
+  pub same_area : after.area ≡ before.area
+
+-- Each of these looked.
+pub record HaveLooked (before after : List SessionView) : Type 0 where
+  pub long : length after ≡ length before
+  pub each : (a : ℕ) (d : SessionView) → a < length before
+      → HasLooked (slice_index_or before a d) (slice_index_or after a d)
+
+-- The lane of this number took so few packets that it can count these too.
+pub record HasRoom (opening : Opening) (number : ℕ) (packets : List Packet) (lane : Lane)
+    : Type 0 where
+  pub taken : List Packet
+  pub has : HasTaken opening number taken lane
+  pub few : length taken + length packets ≤ MOST_RECORDS
+
+-- A centre can work on these packets: nothing waits in its lanes, and nothing is noted.
+pub record CanWork (id : CentreId) (packets : List Packet) (centre : Centre) : Type 0 where
+  pub whole : IsWhole id centre
+  pub listed : AreListed id.opening.basis.stations packets
+  pub free : AreFree centre.lanes.items
+  pub room : (i : ℕ) (d : Lane) → i < length centre.lanes.items
+      → HasRoom id.opening i packets (slice_index_or centre.lanes.items i d)
+  pub few : length (gathered centre.feeder.gather) ≤ MOST_RECORDS
+  pub none_noted : centre.feeder.notes ≡ []
+
+-- It did: each lane took its packets of these, in order, and sent what they made; its feeder went
+-- on, and was refused no memory; and each session looked, in a round in which they read.
+pub record HasWorked (id : CentreId) (packets : List Packet) (reads : Bool) (before after : Centre)
+    : Type 0 where
+  pub whole : IsWhole id after
+  pub taken : (i : ℕ) (d : Lane) (taken : List Packet) → i < length before.lanes.items
+      → HasTaken id.opening i taken (slice_index_or before.lanes.items i d)
+      → HasTaken id.opening i (taken ++ of_lane id.opening.basis.setup.lanes i packets)
+      (slice_index_or after.lanes.items i d)
+  pub free : AreFree after.lanes.items
+  pub goes_on : GoesOn before.feeder after.feeder
+  pub allowed : after.feeder.refused ≡ false
+  pub looked : reads ≡ true → HaveLooked before.sessions.items after.sessions.items
+  pub as_before : reads ≡ false → after.sessions.items ≡ before.sessions.items

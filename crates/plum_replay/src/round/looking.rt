@@ -1,0 +1,81 @@
+//! A session's work in a round: it reads once.
+
+ghost use Rattle.std.specs.Prelude.{◌≡◌, true, false};
+ghost use Rattle.plum_replay.specs.Pieces.{Looks, AllLook};
+ghost use Rattle.plum_replay.specs.Rounds.{HasLooked};
+
+use crate::gate::Gate;
+use crate::round::number_of;
+use plum_snap::Session;
+use std::sync::Wait;
+use std::sync::atomic::AtomicBool;
+use std::sync::atomic::Ordering::SeqCst;
+use std::thread::{Threads, for_each_mut};
+
+/// A session in a round.
+#[derive(Drop)]
+pub struct Watch {
+    pub session: Session,
+    /// Whether it has read.
+    pub done: bool,
+}
+
+/// Reads. Whether it was let in.
+fn read(session: &mut Session) -> bool
+    ensures looked { result ≡ true → HasLooked session.old session.new }
+    ensures shut { result ≡ false
+        → session.new ≡ record session.old { shut = session.new.shut } }
+{
+    match session.read() {
+        Ok(_) => true,
+        Err(_) => false,
+    }
+}
+
+/// Reads once, however often it is shut out. Whether it did: not where the round stops before.
+fn look<R: Wait, G: Gate>(
+    rt: &R,
+    gate: &G,
+    round: u32,
+    number: u16,
+    stop: &AtomicBool,
+    session: &mut Session,
+) -> bool
+    ensures { result ≡ true → HasLooked session.old session.new }
+{
+    for _ in rt.forever() {
+        if stop.load(SeqCst) {
+            return false;
+        }
+        gate.reading(round, number);
+        if read(session) {
+            return true;
+        }
+    }
+    unreachable!()
+}
+
+/// All sessions read, on threads.
+pub fn look_all<R: Threads + Wait + Sync, G: Gate + Sync>(
+    rt: &R,
+    gate: &G,
+    round: u32,
+    stop: &AtomicBool,
+    watches: &mut [Watch],
+)
+    ensures { AllLook watches.old watches.new }
+{
+    let count = watches.len();
+    if count > 0 {
+        for_each_mut(
+            rt,
+            watches,
+            count,
+            &|a, watch|
+                ensures { Looks watch.entry.now watch.exit.now }
+            {
+                watch.done = look(rt, gate, round, number_of(a), stop, &mut watch.session);
+            },
+        );
+    }
+}
