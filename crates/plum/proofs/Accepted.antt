@@ -1,21 +1,20 @@
 -- What the grammar accepts, `clap` reads.
-use Rattle.std.proofs.Common.{◌≡◌, ℕ, ◌&&◌, ◌==◌, false, true, Bool, List, [], ◌∷◌, Option, None}
-use Rattle.std.proofs.Common.{Result, Ok, Err, IfErr, is_some, Some, codes, refl, ap, ◌∙◌, map, arith, subst, not}
-use Rattle.std.specs.Prelude.{⊤, if◌then◌else◌, nat_lt, length, drop}
-use Rattle.std.specs.List.{list_all}
+use Rattle.std.proofs.Common.{◌≡◌, ℕ, ◌&&◌, false, true, Bool, List, [], ◌∷◌, Option, None}
+use Rattle.std.proofs.Common.{Result, Ok, Err, IfErr, is_some, Some, codes, refl, ap, ◌∙◌, map, subst}
+use Rattle.std.specs.Prelude.{if◌then◌else◌, drop}
 use Rattle.std.specs.Option.{option_map}
 use Rattle.std.specs.Str.{bytes_eq}
 use Rattle.clap.specs.Simple.{App, Shape, built, matches_of}
 use Rattle.clap.specs.Takes.{takes}
 use Rattle.clap.specs.Walk.{Held, Row, Text, finished, first_of, nothing_held}
 use Rattle.clap.proofs.TakesLemmas.{leaf_takes}
-use Rattle.plum.specs.Job.{Job, replay, station, check, LAST_CODE, is_digit, is_path, is_number}
+use Rattle.plum.specs.Job.{Job, replay, station, check, LAST_CODE, is_path}
 use Rattle.plum.specs.Job.{number_up_to, job_of, replay_of, station_of, check_of}
 use Rattle.plum.specs.declared.grammar.CommandName.{CommandName}
 use Rattle.plum.specs.declared.grammar.CommandName.TheVariants as names
 use Rattle.plum.specs.Asked.{name_of}
-use Rattle.plum.specs.Words.{IsRead, ReadsTheGrammar, Spell, app_for, app_with, ids_of}
-use Rattle.plum.proofs.Clapping.{ArePlain, Fit, after_words, level, walk_ends}
+use Rattle.plum.specs.Words.{IsRead, ReadsTheGrammar, app_for, ids_of}
+use Rattle.plum.proofs.Clapping.{ArePlain, Fit, level, walk_ends}
 use Rattle.plum.proofs.Numbers.{number_given, number_is_plain, three_true}
 
 -- the words of `replay`
@@ -118,7 +117,7 @@ by_replay command (a ∷ b ∷ c ∷ d ∷ e ∷ []) job h =
     go true all h =
         let p = five_true (is_path a) (is_path b) (is_path c) (is_path d) (is_path e) all in
         let plain : ArePlain (a ∷ b ∷ c ∷ d ∷ e ∷ []) =
-            (p.0, (p.1, (p.2, (p.3, (p.4, tt))))) in
+        (p.0, (p.1, (p.2, (p.3, (p.4, tt))))) in
         let same : replay a b c d e ≡ job = cc in
         subst (λ (j : Job). IsRead j (command ∷ a ∷ b ∷ c ∷ d ∷ e ∷ [])) same (record {
           taken = replay_taken command a b c d e plain;
@@ -139,8 +138,20 @@ by_station command (a ∷ b ∷ c ∷ d ∷ []) job h =
         → IsRead job (command ∷ a ∷ b ∷ c ∷ d ∷ [])
     go true all (Some n) number h =
         let p = three_true (is_path a) (is_path b) (is_path c) all in
-        let plain : ArePlain (a ∷ b ∷ c ∷ d ∷ []) = (p.0, (p.1, (p.2, (number_is_plain d
-            (number_given LAST_CODE d n number), tt)))) in
+        let plain : ArePlain (a ∷ b ∷ c ∷ d ∷ []) = (
+          p.0,
+          (
+            p.1,
+            (
+              p.2,
+              (
+                number_is_plain d
+                    (number_given LAST_CODE d n number),
+                tt,
+              ),
+            ),
+          ),
+        ) in
         let same : station a b c n ≡ job = cc in
         subst (λ (j : Job). IsRead j (command ∷ a ∷ b ∷ c ∷ d ∷ [])) same (record {
           taken = station_taken command a b c d plain;
@@ -260,7 +271,7 @@ module _ (words : List Text) (rows : List Row) where
   pub replay_values : (asks : AsksReplay words)
       → IsRead (replay asks.setup asks.stations asks.targets asks.capture asks.journal) words
       → rows ≡ matches_of
-          (app_for (replay asks.setup asks.stations asks.targets asks.capture asks.journal)) words
+      (app_for (replay asks.setup asks.stations asks.targets asks.capture asks.journal)) words
       → (first_of (codes "SETUP") rows ≡ Some asks.setup)
       × (first_of (codes "STATIONS") rows ≡ Some asks.stations)
       × (first_of (codes "TARGETS") rows ≡ Some asks.targets)
@@ -269,10 +280,10 @@ module _ (words : List Text) (rows : List Row) where
   replay_values asks read same =
       let job : Job = replay asks.setup asks.stations asks.targets asks.capture asks.journal in
       let all : first_of (codes "SETUP") rows ∷ first_of (codes "STATIONS") rows
-          ∷ first_of (codes "TARGETS") rows ∷ first_of (codes "CAPTURE") rows
-          ∷ first_of (codes "JOURNAL") rows ∷ []
-          ≡ Some asks.setup ∷ Some asks.stations ∷ Some asks.targets ∷ Some asks.capture
-          ∷ Some asks.journal ∷ [] =
+      ∷ first_of (codes "TARGETS") rows ∷ first_of (codes "CAPTURE") rows
+      ∷ first_of (codes "JOURNAL") rows ∷ []
+      ≡ Some asks.setup ∷ Some asks.stations ∷ Some asks.targets ∷ Some asks.capture
+      ∷ Some asks.journal ∷ [] =
       values_are job words rows read same
       ∙ ap (λ (ws : List Text). map (λ w. Some w) ws) read.spelled in
       (cc, cc, cc, cc, cc)
@@ -280,7 +291,7 @@ module _ (words : List Text) (rows : List Row) where
   pub station_values : (asks : AsksStation words)
       → (read : IsRead (station asks.setup asks.stations asks.capture asks.code) words)
       → rows ≡ matches_of
-          (app_for (station asks.setup asks.stations asks.capture asks.code)) words
+      (app_for (station asks.setup asks.stations asks.capture asks.code)) words
       → (first_of (codes "SETUP") rows ≡ Some asks.setup)
       × (first_of (codes "STATIONS") rows ≡ Some asks.stations)
       × (first_of (codes "CAPTURE") rows ≡ Some asks.capture)
@@ -288,9 +299,9 @@ module _ (words : List Text) (rows : List Row) where
   station_values asks read same =
       let job : Job = station asks.setup asks.stations asks.capture asks.code in
       let all : first_of (codes "SETUP") rows ∷ first_of (codes "STATIONS") rows
-          ∷ first_of (codes "CAPTURE") rows ∷ first_of (codes "CODE") rows ∷ []
-          ≡ Some asks.setup ∷ Some asks.stations ∷ Some asks.capture ∷ Some read.spelled.0
-          ∷ [] =
+      ∷ first_of (codes "CAPTURE") rows ∷ first_of (codes "CODE") rows ∷ []
+      ≡ Some asks.setup ∷ Some asks.stations ∷ Some asks.capture ∷ Some read.spelled.0
+      ∷ [] =
       values_are job words rows read same
       ∙ ap (λ (ws : List Text). map (λ w. Some w) ws) read.spelled.2 in
       (cc, cc, cc, cc)
@@ -298,7 +309,7 @@ module _ (words : List Text) (rows : List Row) where
   pub check_values : (asks : AsksCheck words)
       → IsRead (check asks.setup asks.stations asks.targets asks.capture) words
       → rows ≡ matches_of
-          (app_for (check asks.setup asks.stations asks.targets asks.capture)) words
+      (app_for (check asks.setup asks.stations asks.targets asks.capture)) words
       → (first_of (codes "SETUP") rows ≡ Some asks.setup)
       × (first_of (codes "STATIONS") rows ≡ Some asks.stations)
       × (first_of (codes "TARGETS") rows ≡ Some asks.targets)
@@ -306,8 +317,8 @@ module _ (words : List Text) (rows : List Row) where
   check_values asks read same =
       let job : Job = check asks.setup asks.stations asks.targets asks.capture in
       let all : first_of (codes "SETUP") rows ∷ first_of (codes "STATIONS") rows
-          ∷ first_of (codes "TARGETS") rows ∷ first_of (codes "CAPTURE") rows ∷ []
-          ≡ Some asks.setup ∷ Some asks.stations ∷ Some asks.targets ∷ Some asks.capture ∷ [] =
+      ∷ first_of (codes "TARGETS") rows ∷ first_of (codes "CAPTURE") rows ∷ []
+      ≡ Some asks.setup ∷ Some asks.stations ∷ Some asks.targets ∷ Some asks.capture ∷ [] =
       values_are job words rows read same
       ∙ ap (λ (ws : List Text). map (λ w. Some w) ws) read.spelled in
       (cc, cc, cc, cc)

@@ -31,7 +31,7 @@ use Rattle.plum_packet.specs.Segments.{Decoded, IsCaptureOf, packets_in, refused
 use Rattle.plum_base.proofs.Coded.{listed_code}
 use Rattle.plum_packet.proofs.OneBody.{same_station}
 use Rattle.plum_replay.proofs.Stopping.{front_of}
-use Rattle.plum_replay.proofs.Writings.{appends-nil}
+use Rattle.plum_replay.proofs.Writings.{appends-same}
 use Rattle.plum_seq.specs.Keys.{kept}
 use Rattle.plum_text.specs.declared.lines.OutLine.TheVariants.{Tail}
 use Rattle.plum_text.specs.declared.lines.PlainLine.{PlainLine}
@@ -305,4 +305,4 @@ module _ (laws : TextLaws) (stations : List StationSite) (distinct : AreCodesDis
 pub begun_nothing : (job : Job) (setup : Setup) (stations : List StationSite) (capture : List ℕ)
     (host : HostView) → AppendsPlainBegun job setup stations capture host host
 begun_nothing job setup stations capture host =
-    ([], λ whole is. nothing_begins whole, appends-nil (host.held Out))
+    ([], λ whole is. nothing_begins whole, appends-same (host.held Out) (host.held Out) refl)

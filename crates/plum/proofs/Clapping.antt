@@ -12,7 +12,7 @@ use Rattle.clap.specs.Takes.{level_passes, settle_passes, step_passes, turn_pass
 use Rattle.clap.specs.Takes.{takes, word_passes}
 use Rattle.clap.specs.Walk.{Held, Rule, Step, Text, Walk, after_step, arg_by_index, finished, idle}
 use Rattle.clap.specs.Walk.{long_or_other, nothing_held, short_or_plain, to_positional, trailing}
-use Rattle.clap.specs.Walk.{value, walk, walk_from, walked, word_met}
+use Rattle.clap.specs.Walk.{value, walk, walked, word_met}
 use Rattle.clap.specs.Words.{new_app, with_rule}
 use Rattle.plum.specs.Job.{is_path}
 use Rattle.plum.specs.Words.{app_with, required_word}
@@ -41,18 +41,18 @@ module _ (a : ℕ) (front : List ℕ) (e : (a == 45) ≡ false) where
   met c p h =
       let none : Held × Step = (h, trailing p) in
       ap (λ (t : Bool). if t then none
-          else long_or_other c idle (a ∷ front) (long_of (a ∷ front)) h) no_dashes
+      else long_or_other c idle (a ∷ front) (long_of (a ∷ front)) h) no_dashes
       ∙ ap (λ (o : Option (Text × Option Text)). long_or_other c idle (a ∷ front) o h) no_long
       ∙ ap (λ (o : Option Text). short_or_plain c idle (a ∷ front) o h) no_short
 
   passes : (s : Shape) (h : Held) → word_passes s [] false idle (a ∷ front) h ≡ true
   passes s h =
       ap (λ (t : Bool). t || flag_word_passes s.rules s.args_override_self
-          (long_of (a ∷ front)) (a ∷ front) h) no_dashes
+      (long_of (a ∷ front)) (a ∷ front) h) no_dashes
       ∙ ap (λ (o : Option (Text × Option Text)).
-          flag_word_passes s.rules s.args_override_self o (a ∷ front) h) no_long
+      flag_word_passes s.rules s.args_override_self o (a ∷ front) h) no_long
       ∙ ap (λ (o : Option Text). option_map_or (λ flags.
-          bundle_passes s.rules s.args_override_self flags h) o true) no_short
+      bundle_passes s.rules s.args_override_self flags h) o true) no_short
 
 -- between two words, nothing waits
 abbrev pub standing : ℕ → Held → Walk
@@ -101,7 +101,7 @@ turn s p h [] plain asks = cc
 turn s p h (a ∷ front) plain asks =
     let e : (a == 45) ≡ false = no_hyphen a front plain in
     ap (λ (m : Held × Step). word_passes s [] false idle (a ∷ front) h
-        && step_passes s p m.0 m.1) (met a front e s.rules p h)
+    && step_passes s p m.0 m.1) (met a front e s.rules p h)
     ∙ ap (λ (t : Bool). t && step_passes s p h value) (passes a front e s h) ∙ asks
 
 pub walk_ends : (s : Shape) (p : ℕ) (h : Held) (words : List Text) → ArePlain words

@@ -1,7 +1,7 @@
 -- What each command uses, and what is at work for it.
 use Rattle.std.proofs.Common.{◌≡◌, ℕ, true, false, List, Option, Some, None, Result, Ok, Err}
 use Rattle.std.proofs.Common.{refl, sym, subst}
-use Rattle.std.specs.Prelude.{IfSome, IfNone, IfErr, MatchResult, OnOk}
+use Rattle.std.specs.Prelude.{IfSome, IfNone, IfErr, MatchResult, OnOk, option_and_then}
 use Rattle.plum_base.specs.declared.numbers.StationNo.{StationNo}
 use Rattle.plum_base.specs.declared.sites.StationSite.{StationSite}
 use Rattle.plum_base.specs.Sites.{HasCode, HasNoCode, IsFoundAt}
@@ -13,7 +13,8 @@ use Rattle.plum.specs.declared.teller.Teller.TheVariants.{Watching, Counting}
 use Rattle.plum.specs.declared.watch.Watch.{Watch}
 use Rattle.plum.specs.Ended.{HasEnded}
 use Rattle.plum.specs.Files.{uses_targets}
-use Rattle.plum.specs.Job.{Job, replay, station, check, IsReplay, IsStation, IsCheck}
+use Rattle.plum.specs.Job.{Job, replay, station, check, plain, IsReplay, IsStation, IsCheck}
+use Rattle.plum.specs.Job.{IsPlain}
 use Rattle.plum.specs.Telling.{IsTellerOf}
 
 pub replay_uses_targets : (job : Job) → IsReplay job → uses_targets job ≡ true
@@ -63,3 +64,19 @@ ends_with job (Ok x) status before after is done ended =
     subst (λ s. HasEnded job s before after) (sym is) done
 ends_with job (Err s) status before after is done ended =
     subst (λ s. HasEnded job s before after) (sym is) ended
+
+-- What asks for a plain command is one.
+plainly : (asked : Option Job) → IfSome (option_and_then plain asked) IsPlain
+plainly None = tt
+plainly (Some (replay s st t c j)) = tt
+plainly (Some (station s st c n)) = tt
+plainly (Some (check s st t c)) = tt
+
+pub asked_plainly : (asked : Option Job) (job : Job) → option_and_then plain asked ≡ Some job
+    → IsPlain job
+asked_plainly asked job is = subst (λ o. IfSome o IsPlain) is (plainly asked)
+
+-- What holds of a job holds of the one that is asked for.
+pub holds_of_asked : (asked : Option Job) (job : Job) (P : Job → Type 0) → asked ≡ Some job
+    → P job → IfSome asked P
+holds_of_asked asked job P is holds = subst (λ o. IfSome o P) (sym is) holds

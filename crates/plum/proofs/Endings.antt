@@ -1,6 +1,6 @@
 -- How the work ends at each input.
-use Rattle.std.proofs.Common.{◌≡◌, ℕ, ◌<◌, true, List, [], Option, Some, None}
-use Rattle.std.proofs.Common.{inl, inr, refl, sym, ap, subst, ◌∙◌, arith, append-nil}
+use Rattle.std.proofs.Common.{◌≡◌, ℕ, ◌<◌, true, List, Option, Some, None}
+use Rattle.std.proofs.Common.{inl, inr, refl, ap, subst, ◌∙◌, arith}
 use Rattle.std.specs.Prelude.{IfSome}
 use Rattle.plum_base.specs.declared.setup.Setup.{Setup}
 use Rattle.plum_base.specs.Counts.{AddUp}
@@ -15,22 +15,22 @@ use Rattle.plum_host.specs.Counting.{CountsNothing}
 use Rattle.plum_replay.specs.declared.fault.ReplayFault.{ReplayFault}
 use Rattle.plum_replay.specs.declared.fault.ReplayFault.TheVariants as replays
 use Rattle.plum_replay.specs.declared.totals.Totals.{Totals}
-use Rattle.plum_replay.specs.Begun.{AppendsNothing, BeginsReplay, StopsInOrder, StopsAtAnEnd}
+use Rattle.plum_replay.specs.Begun.{BeginsReplay}
 use Rattle.plum_replay.specs.Captured.{FailsWithin, HasTooMany}
 use Rattle.plum_replay.specs.Faults.{CountsStop}
 use Rattle.plum_replay.specs.Replayed.{ReplaysCapture, counts_in_all}
+use Rattle.plum_replay.proofs.Writings.{appends-same}
 use Rattle.plum.specs.declared.status.SitesFile.TheVariants as sites
 use Rattle.plum.specs.declared.status.LimitOf.TheVariants as limits
 use Rattle.plum.specs.declared.status.Status.{Status}
 use Rattle.plum.specs.declared.status.Status.TheVariants as ends
-use Rattle.plum.specs.Files.{turn_of, IsFile, FilesState, uses}
+use Rattle.plum.specs.Files.{turn_of, IsFile, uses}
 use Rattle.plum.specs.Causes.{FailsAt, IsCause, ComesTo, LeavesBehind, LeavesUnused}
 use Rattle.plum.specs.Causes.{EndsAtAnInput}
 use Rattle.plum.specs.Job.{Job, replay, station, check, IsReplay}
-use Rattle.plum.specs.Replayed.{StopsInReplay}
+use Rattle.plum.specs.Replayed.{AppendsNothing, StopsInReplay}
 use Rattle.plum.specs.Status.{CountsEnd, status_of}
-use Rattle.plum.specs.Ended.{AppendsEnd, HasEnded, IsAtTurn, AreRead, BreaksOff, StopsReading}
-use Rattle.plum.specs.Ended.{WritesAtAnEnd}
+use Rattle.plum.specs.Ended.{AppendsEnd, HasEnded, IsAtTurn, AreRead, BreaksOff}
 use Rattle.plum.specs.Plain.{LeavesJournal}
 use Rattle.plum.proofs.Turns.{leaves_behind, leaves_unused, leaves_unused_at_capture}
 use Rattle.plum.proofs.Turns.{comes_to_capture}
@@ -92,27 +92,15 @@ counts_from (ends.Limit of_what) before now after none ended =
 counts_from ends.NoMemory before now after none ended =
     record { reads = ended.reads ∙ none.reads; writes = ended.writes ∙ none.writes }
 
-no_bytes : (held now : Option (List ℕ)) → now ≡ held → Appends held now []
-no_bytes None now same = tt
-no_bytes (Some bytes) now same = same ∙ ap (λ l. Some l) (sym (append-nil bytes))
-
 -- Where no output was written, nothing is appended.
 pub nothing_appended : (before after : HostView) → ((to : To) → after.held to ≡ before.held to)
     → AppendsNothing before after
 nothing_appended before after same = record {
-  journal = no_bytes (before.held Journal) (after.held Journal) (same Journal);
+  journal = appends-same (before.held Journal) (after.held Journal) (same Journal);
   output = same Out;
 }
 
 -- where nothing is appended, no command has done more than it may
-pub stopped_quietly : (job : Job) (before after : HostView) → AppendsNothing before after
-    → LeavesJournal before after → StopsReading job before after
-stopped_quietly (replay setup stations targets capture journal) before after nothing left = nothing
-stopped_quietly (station setup stations capture code) before after nothing left =
-    record { journal = left; output = inl nothing.output }
-stopped_quietly (check setup stations targets capture) before after nothing left =
-    record { journal = left; output = inl nothing.output }
-
 pub broke_off_quietly : (job : Job) (before after : HostView) → AppendsNothing before after
     → LeavesJournal before after → BreaksOff job before after
 broke_off_quietly (replay setup stations targets capture journal) before after nothing left =
@@ -139,22 +127,15 @@ appends_at_a_file job ends.Usage file before after turn cause nothing left = abs
 appends_at_a_file job (ends.Setup fault) file before after turn cause nothing left = nothing
 appends_at_a_file job (ends.Sites which fault) file before after turn cause nothing left = nothing
 appends_at_a_file job ends.ReadFault file before after turn cause nothing left =
-    stopped_quietly job before after nothing left
+    broke_off_quietly job before after nothing left
 appends_at_a_file job ends.WriteFault file before after turn cause nothing left =
     broke_off_quietly job before after nothing left
 appends_at_a_file job (ends.Limit (limits.File long)) file before after turn cause nothing left =
     nothing
 appends_at_a_file job (ends.Limit limits.Records) file before after turn cause nothing left =
-    stopped_quietly job before after nothing left
+    broke_off_quietly job before after nothing left
 appends_at_a_file job ends.NoMemory file before after turn cause nothing left =
     broke_off_quietly job before after nothing left
-
-no_write_at_a_file : (job : Job) (status : Status) (file : In) (before after : HostView)
-    → IsFile file → IsCause status file before after → status ≡ ends.WriteFault
-    → WritesAtAnEnd job before after
-no_write_at_a_file job status file before after turn cause is =
-    let at : file ≡ inputs.Capture = subst (λ s. IsCause s file before after) is cause in
-    let e = ap turn_of at in absurd (omega arith)
 
 -- the work ends at a file
 pub ends_at_a_file : (job : Job) (status : Status) (file : In) (before now after : HostView)
@@ -178,7 +159,6 @@ ends_at_a_file job status file before now after turn used comes so_far frame cau
       counts = counts_from status before now after so_far.counts counts;
       appends = appends_at_a_file job status file before after turn here nothing
           (outputs Journal);
-      write_at_an_end = no_write_at_a_file job status file before after turn here;
       unused = leaves_unused job file before after used turn behind;
     }
 
@@ -198,52 +178,31 @@ ends_behind_the_files job before now comes so_far unused =
       counts = so_far.counts;
       appends = broke_off_quietly job before now (nothing_appended before now so_far.outputs)
           (so_far.outputs Journal);
-      write_at_an_end = λ is. cc;
       unused = unused;
     }
 
 -- What a replay appended to the outputs as they were left, it appended to those at first.
 
-quietly_from : (before now after : HostView) → IsAtTurn inputs.Capture before now
-    → AppendsNothing now after → AppendsNothing before after
-quietly_from before now after so_far nothing = record {
-  journal = subst (λ held. Appends held (after.held Journal) []) (so_far.outputs Journal)
-      nothing.journal;
-  output = nothing.output ∙ so_far.outputs Out;
-}
-
-begun_from : (setup : Setup) (sites : SitesView) (before now after : HostView)
-    → IsAtTurn inputs.Capture before now → BeginsReplay setup sites now after
-    → BeginsReplay setup sites before after
-begun_from setup sites before now after so_far begun capture told =
-    let (appended, ended, few) =
-    begun capture (so_far.inputs inputs.Capture (omega arith) ∙ told) in (
-      (
-        appended.0,
-        appended.1,
-        appended.2,
-        subst (λ held. Appends held (after.held Journal) appended.0) (so_far.outputs Journal)
-            appended.3,
-        subst (λ held. Appends held (after.held Out) appended.1) (so_far.outputs Out) appended.4,
-      ),
-      ended,
-      few,
+begun_from : (job : Job) (setup : Setup) (sites : SitesView) (before now after : HostView)
+    → AreRead job setup sites before now → BeginsReplay setup sites now after
+    → StopsInReplay job before after
+begun_from job setup sites before now after read begun =
+    let turn = read.at_turn in
+    inr (
+      setup,
+      sites,
+      read.stated,
+      λ capture told.
+          let (journal, output, begins, journal_appended, output_appended) =
+          begun capture (turn.inputs inputs.Capture (omega arith) ∙ told) in (
+            journal,
+            output,
+            begins,
+            subst (λ held. Appends held (after.held Journal) journal) (turn.outputs Journal)
+                journal_appended,
+            subst (λ held. Appends held (after.held Out) output) (turn.outputs Out) output_appended,
+          ),
     )
-
-stopped_from : (job : Job) (setup : Setup) (sites : SitesView) (before now after : HostView)
-    → FilesState job before setup sites → IsAtTurn inputs.Capture before now
-    → StopsInOrder setup sites now after → StopsInReplay job before after
-stopped_from job setup sites before now after stated so_far (inl nothing) =
-    inl (quietly_from before now after so_far nothing)
-stopped_from job setup sites before now after stated so_far (inr begun) =
-    inr (setup, sites, stated, begun_from setup sites before now after so_far begun)
-
-an_end_from : (before now after : HostView) → IsAtTurn inputs.Capture before now
-    → StopsAtAnEnd now after → StopsAtAnEnd before after
-an_end_from before now after so_far (inl untouched) =
-    inl (untouched ∙ so_far.inputs inputs.Capture (omega arith))
-an_end_from before now after so_far (inr ended) =
-    inr (λ capture told. ended capture (so_far.inputs inputs.Capture (omega arith) ∙ told))
 
 replayed_from : (setup : Setup) (sites : SitesView) (totals : Totals)
     (before now after : HostView) → IsAtTurn inputs.Capture before now
@@ -277,12 +236,30 @@ pub record HasStopped (setup : Setup) (sites : SitesView) (fault : ReplayFault)
     (before after : HostView) : Type 0 where
   pub read : fault ≡ replays.Read → FailsWithin before after
   pub limit : fault ≡ replays.Limit → HasTooMany before
-  pub write : fault ≡ replays.Write → StopsAtAnEnd before after
-  pub quiet_read : fault ≡ replays.Read → AppendsNothing before after
-  pub quiet_limit : fault ≡ replays.Limit → AppendsNothing before after
-  pub in_order : StopsInOrder setup sites before after
+  pub begun : BeginsReplay setup sites before after
   pub counts : CountsStop fault before after
   pub other_inputs : LeavesOtherInputs inputs.Capture before after
+
+-- why a replay stopped
+pub cause_of : (fault : ReplayFault) (before now after : HostView)
+    → now.left inputs.Capture ≡ before.left inputs.Capture
+    → (fault ≡ replays.Read → FailsWithin now after)
+    → (fault ≡ replays.Limit → HasTooMany now)
+    → IsCause (status_of fault) inputs.Capture before after
+cause_of replays.Read before now after same read limit =
+    fails_from inputs.Capture before now after same (read refl)
+cause_of replays.Write before now after same read limit = refl
+cause_of replays.Limit before now after same read limit =
+    cause_from (ends.Limit limits.Records) inputs.Capture before now after same (refl, limit refl)
+cause_of replays.NoMemory before now after same read limit = tt
+
+-- and what it counted
+pub counts_of : (fault : ReplayFault) (before after : HostView) → CountsStop fault before after
+    → CountsEnd (status_of fault) before after
+counts_of replays.Read before after counts = counts
+counts_of replays.Write before after counts = counts
+counts_of replays.Limit before after counts = counts
+counts_of replays.NoMemory before after counts = counts
 
 -- the work ends at the capture
 pub at_the_capture : (job : Job) (setup : Setup) (sites : SitesView) (status : Status)
@@ -302,53 +279,26 @@ module _ (setup_path stations_path targets_path capture_path journal_path : List
   abbrev it : Job
   it = replay setup_path stations_path targets_path capture_path journal_path
 
-  -- the work ends where the replay stops
+  -- what stands in the outputs where the replay stops
+  stops_so : (fault : ReplayFault) → StopsInReplay it before after
+      → AppendsEnd it (status_of fault) before after
+  stops_so replays.Read stops = stops
+  stops_so replays.Write stops = stops
+  stops_so replays.Limit stops = stops
+  stops_so replays.NoMemory stops = stops
+
+  -- the work ends there
   ends_in_it : (fault : ReplayFault) → AreRead it setup sites before now
       → HasStopped setup sites fault now after → HasEnded it (status_of fault) before after
-  ends_in_it replays.Read read stopped =
-      let turn = read.at_turn in
-      record {
-        at_an_input = at_the_capture it setup sites ends.ReadFault before now after read
-            stopped.other_inputs (fails_from inputs.Capture before now after
-            (turn.inputs inputs.Capture (omega arith)) (stopped.read refl));
-        counts = counts_from ends.ReadFault before now after turn.counts stopped.counts;
-        appends = quietly_from before now after turn (stopped.quiet_read refl);
-        write_at_an_end = λ is. cc;
-        unused = leaves_unused_at_capture it before now after read.unused stopped.other_inputs;
-      }
-  ends_in_it replays.Write read stopped =
-      let turn = read.at_turn in
-      record {
-        at_an_input = at_the_capture it setup sites ends.WriteFault before now after read
-            stopped.other_inputs refl;
-        counts = counts_from ends.WriteFault before now after turn.counts stopped.counts;
-        appends = stopped_from it setup sites before now after read.stated turn stopped.in_order;
-        write_at_an_end = λ is. an_end_from before now after turn (stopped.write refl);
-        unused = leaves_unused_at_capture it before now after read.unused stopped.other_inputs;
-      }
-  ends_in_it replays.Limit read stopped =
-      let turn = read.at_turn in
-      record {
-        at_an_input = at_the_capture it setup sites (ends.Limit limits.Records) before now after
-            read stopped.other_inputs (cause_from (ends.Limit limits.Records) inputs.Capture
-            before now after (turn.inputs inputs.Capture (omega arith))
-            (refl, stopped.limit refl));
-        counts = counts_from (ends.Limit limits.Records) before now after turn.counts
-            stopped.counts;
-        appends = quietly_from before now after turn (stopped.quiet_limit refl);
-        write_at_an_end = λ is. cc;
-        unused = leaves_unused_at_capture it before now after read.unused stopped.other_inputs;
-      }
-  ends_in_it replays.NoMemory read stopped =
-      let turn = read.at_turn in
-      record {
-        at_an_input = at_the_capture it setup sites ends.NoMemory before now after read
-            stopped.other_inputs tt;
-        counts = counts_from ends.NoMemory before now after turn.counts stopped.counts;
-        appends = stopped_from it setup sites before now after read.stated turn stopped.in_order;
-        write_at_an_end = λ is. cc;
-        unused = leaves_unused_at_capture it before now after read.unused stopped.other_inputs;
-      }
+  ends_in_it fault read stopped = record {
+    at_an_input = at_the_capture it setup sites (status_of fault) before now after read
+        stopped.other_inputs (cause_of fault before now after
+        (read.at_turn.inputs inputs.Capture (omega arith)) stopped.read stopped.limit);
+    counts = counts_from (status_of fault) before now after read.at_turn.counts
+        (counts_of fault now after stopped.counts);
+    appends = stops_so fault (begun_from it setup sites before now after read stopped.begun);
+    unused = leaves_unused_at_capture it before now after read.unused stopped.other_inputs;
+  }
 
   -- the work is done
   ends_it : (totals : Totals) → AreRead it setup sites before now
@@ -367,7 +317,6 @@ module _ (setup_path stations_path targets_path capture_path journal_path : List
           replays = replayed_from setup sites totals before now after read.at_turn replays;
           sums = sums;
         };
-        write_at_an_end = λ is. cc;
         unused = leaves_unused_at_capture it before now after read.unused left;
       }
 

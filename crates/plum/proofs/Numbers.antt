@@ -1,6 +1,6 @@
 -- What the tests of the grammar say of a word that is a number.
 use Rattle.std.proofs.Common.{◌≡◌, ℕ, ◌+◌, ◌<◌, ◌&&◌, ◌==◌, false, true, Bool, List, [], ◌∷◌}
-use Rattle.std.proofs.Common.{Option, None, Some, length, refl, arith}
+use Rattle.std.proofs.Common.{None, Some, length, refl, arith}
 use Rattle.std.proofs.lemmas.Bool.Decides.{nat_tests}
 use Rattle.std.specs.List.{list_all}
 use Rattle.std.specs.Prelude.{nat_lt, if◌then◌else◌}

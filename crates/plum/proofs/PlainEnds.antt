@@ -12,22 +12,14 @@ use Rattle.plum_replay.specs.declared.fault.ReplayFault.{ReplayFault}
 use Rattle.plum_replay.specs.declared.fault.ReplayFault.TheVariants as replays
 use Rattle.plum_replay.specs.Captured.{FailsWithin, HasTooMany}
 use Rattle.plum_replay.specs.Faults.{CountsStop}
-use Rattle.plum.specs.declared.status.LimitOf.TheVariants as limits
 use Rattle.plum.specs.declared.status.Status.TheVariants as ends
-use Rattle.plum.specs.Causes.{IsCause}
-use Rattle.plum.specs.Ended.{AppendsEnd, AreRead, DoesJob, HasEnded, WritesAtAnEnd}
-use Rattle.plum.specs.Job.{Job, replay, station, check, IsCheck, IsStation}
+use Rattle.plum.specs.Ended.{AppendsEnd, AreRead, DoesJob, HasEnded}
+use Rattle.plum.specs.Job.{Job, replay, station, check, IsCheck, IsPlain, IsStation}
 use Rattle.plum.specs.Plain.{AppendsPlain, AppendsPlainBegun, LeavesJournal, StopsInTelling}
 use Rattle.plum.specs.Plain.{TellsFiles}
-use Rattle.plum.specs.Status.{CountsEnd, status_of}
-use Rattle.plum.proofs.Endings.{at_the_capture, cause_from, counts_from, fails_from}
+use Rattle.plum.specs.Status.{status_of}
+use Rattle.plum.proofs.Endings.{at_the_capture, cause_of, counts_from, counts_of}
 use Rattle.plum.proofs.Turns.{leaves_unused_at_capture}
-
--- It is a plain command.
-abbrev pub IsPlain : Job → Type 0
-IsPlain (replay setup stations targets capture journal) = ⊥
-IsPlain (station setup stations capture code) = Unit {0}
-IsPlain (check setup stations targets capture) = Unit {0}
 
 pub station_is_plain : (code : ℕ) (job : Job) → IsStation code job → IsPlain job
 station_is_plain code (replay s st t c j) is = absurd is
@@ -50,27 +42,6 @@ pub record HasStoppedTelling (job : Job) (setup : Setup) (stations : List Statio
   pub counts : CountsStop fault before after
   pub other_inputs : LeavesOtherInputs inputs.Capture before after
 
--- why it stopped
-cause_of : (fault : ReplayFault) (before now after : HostView)
-    → now.left inputs.Capture ≡ before.left inputs.Capture
-    → (fault ≡ replays.Read → FailsWithin now after)
-    → (fault ≡ replays.Limit → HasTooMany now)
-    → IsCause (status_of fault) inputs.Capture before after
-cause_of replays.Read before now after same read limit =
-    fails_from inputs.Capture before now after same (read refl)
-cause_of replays.Write before now after same read limit = refl
-cause_of replays.Limit before now after same read limit =
-    cause_from (ends.Limit limits.Records) inputs.Capture before now after same (refl, limit refl)
-cause_of replays.NoMemory before now after same read limit = tt
-
--- and what it counted
-counts_of : (fault : ReplayFault) (before after : HostView) → CountsStop fault before after
-    → CountsEnd (status_of fault) before after
-counts_of replays.Read before after counts = counts
-counts_of replays.Write before after counts = counts
-counts_of replays.Limit before after counts = counts
-counts_of replays.NoMemory before after counts = counts
-
 -- what stands in the outputs
 stops_so : (job : Job) (fault : ReplayFault) (before after : HostView) → IsPlain job
     → StopsInTelling job before after → AppendsEnd job (status_of fault) before after
@@ -89,12 +60,6 @@ does_so : (job : Job) (before after : HostView) → IsPlain job → TellsFiles j
 does_so (replay s st t c j) before after plain tells = absurd plain
 does_so (station s st c n) before after plain tells = tells
 does_so (check s st t c) before after plain tells = tells
-
-writes_anywhere : (job : Job) (before after : HostView) → IsPlain job
-    → WritesAtAnEnd job before after
-writes_anywhere (replay s st t c j) before after plain = absurd plain
-writes_anywhere (station s st c n) before after plain = tt
-writes_anywhere (check s st t c) before after plain = tt
 
 module _ (job : Job) (plain : IsPlain job) (setup : Setup) (sites : SitesView)
     (before now after : HostView) (read : AreRead job setup sites before now) where
@@ -151,7 +116,6 @@ module _ (job : Job) (plain : IsPlain job) (setup : Setup) (sites : SitesView)
     counts = counts_from (status_of fault) before now after read.at_turn.counts
         (counts_of fault now after stopped.counts);
     appends = stops_so job fault before after plain (stopped_from stopped.journal stopped.begun);
-    write_at_an_end = λ is. writes_anywhere job before after plain;
     unused = leaves_unused_at_capture job before now after read.unused stopped.other_inputs;
   }
 
@@ -163,6 +127,5 @@ module _ (job : Job) (plain : IsPlain job) (setup : Setup) (sites : SitesView)
     at_an_input = at_the_capture job setup sites ends.Done before now after read left refl;
     counts = counts_from ends.Done before now after read.at_turn.counts counts;
     appends = does_so job before after plain (told_from tells);
-    write_at_an_end = λ is. cc;
     unused = leaves_unused_at_capture job before now after read.unused left;
   }

@@ -1,5 +1,5 @@
 -- What the end of the work says of each clause of the call.
-use Rattle.std.proofs.Common.{◌≡◌, ℕ, ◌<◌, ◌≤◌, ◌⊎◌, true, List, length, inl, inr, refl}
+use Rattle.std.proofs.Common.{◌≡◌, ℕ, ◌<◌, ◌≤◌, true, List, length, refl}
 use Rattle.std.proofs.Common.{subst, arith}
 use Rattle.plum_host.specs.declared.host.In.{In}
 use Rattle.plum_host.specs.declared.host.In.TheVariants as inputs
@@ -15,9 +15,10 @@ use Rattle.plum.specs.Job.{Job}
 use Rattle.plum.specs.Causes.{EndsAtAnInput, IsFaultySetupFile, IsFaultyStationFile}
 use Rattle.plum.specs.Causes.{IsFaultyTargetFile}
 use Rattle.plum.specs.Status.{CountsEnd, IsAnswerOverLawfulFiles, IsAnswerWithoutFault}
-use Rattle.plum.specs.Ended.{AppendsEnd, DoesJob}
+use Rattle.plum.specs.Status.{MeetsNoFault}
+use Rattle.plum.specs.Ended.{HasEnded}
 
-pub complete_of : (job : Job) (status : Status) (before after : HostView)
+complete_of : (job : Job) (status : Status) (before after : HostView)
     → EndsAtAnInput job status before after → CountsEnd status before after
     → (HasRisen before.read_faults after.read_faults → ⊥)
     → (HasRisen before.write_faults after.write_faults → ⊥) → IsAnswerWithoutFault status
@@ -40,7 +41,7 @@ within_limit inputs.Capture bytes turn lawful = absurd (omega arith)
 within_limit inputs.Journal bytes turn lawful = absurd (omega arith)
 within_limit inputs.Output bytes turn lawful = absurd (omega arith)
 
-pub over_lawful_files : StationsAreTold → TargetsAreTold → (job : Job) (status : Status)
+over_lawful_files : StationsAreTold → TargetsAreTold → (job : Job) (status : Status)
     (before after : HostView) → EndsAtAnInput job status before after
     → IsAnswerWithoutFault status → TellsLawfulFiles job before
     → IsAnswerOverLawfulFiles status
@@ -74,3 +75,16 @@ over_lawful_files stations targets job (ends.Limit (limits.File long)) before af
     absurd (omega arith)
 over_lawful_files stations targets job (ends.Limit limits.Records) before after at sound lawful = tt
 over_lawful_files stations targets job ends.NoMemory before after at sound lawful = tt
+
+-- So it is of each end of the work.
+pub answers_soundly : (job : Job) (status : Status) (before after : HostView)
+    → HasEnded job status before after → MeetsNoFault before after → IsAnswerWithoutFault status
+answers_soundly job status before after ended none =
+    complete_of job status before after ended.at_an_input ended.counts none.reads none.writes
+
+pub answers_lawfully : StationsAreTold → TargetsAreTold → (job : Job) (status : Status)
+    (before after : HostView) → HasEnded job status before after → MeetsNoFault before after
+    → TellsLawfulFiles job before → IsAnswerOverLawfulFiles status
+answers_lawfully stations targets job status before after ended none =
+    over_lawful_files stations targets job status before after ended.at_an_input
+    (answers_soundly job status before after ended none)

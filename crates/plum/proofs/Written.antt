@@ -1,6 +1,6 @@
 -- What a plain command has read and written, one record more and at the end.
 use Rattle.std.proofs.Common.{◌≡◌, ℕ, List, [], ◌++◌, length, Some}
-use Rattle.std.proofs.Common.{sym, subst, ◌∙◌}
+use Rattle.std.proofs.Common.{refl, sym, subst, ◌∙◌}
 use Rattle.plum_base.specs.declared.setup.Setup.{Setup}
 use Rattle.plum_base.specs.declared.sites.StationSite.{StationSite}
 use Rattle.plum_host.specs.declared.host.In.TheVariants.{Capture}
@@ -12,7 +12,7 @@ use Rattle.plum_packet.specs.Bodies.{BodiesView, HasTold, FindsRecord, EndsBodie
 use Rattle.plum_packet.specs.Bodies.{found_as, IsOfListed}
 use Rattle.plum_packet.specs.Records.{tail_of}
 use Rattle.plum_packet.specs.Segments.{Decoded}
-use Rattle.plum_replay.proofs.Writings.{appends-nil}
+use Rattle.plum_replay.proofs.Writings.{appends-same}
 use Rattle.plum.specs.declared.teller.Teller.{Teller}
 use Rattle.plum.specs.declared.teller.Teller.TheVariants.{Watching, Counting}
 use Rattle.plum.specs.Job.{Job}
@@ -53,7 +53,7 @@ read_nothing first stations capture reader before is told = record {
   written = λ setup nothing. record {
     text = [];
     told = nothing;
-    appended = appends-nil (before.held Out);
+    appended = appends-same (before.held Out) (before.held Out) refl;
   };
 }
 

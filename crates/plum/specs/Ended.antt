@@ -1,5 +1,5 @@
 -- How the work of a call ended, and what it did until then.
-use Rattle.std.specs.Prelude.{◌≡◌, ⊤, ◌≤◌}
+use Rattle.std.specs.Prelude.{◌≡◌, ◌≤◌}
 use Rattle.plum_base.specs.declared.setup.Setup.{Setup}
 use Rattle.plum_base.specs.Sites.{SitesView}
 use Rattle.plum_host.specs.declared.host.In.{In}
@@ -7,7 +7,6 @@ use Rattle.plum_host.specs.declared.host.In.TheVariants as inputs
 use Rattle.plum_host.specs.declared.host.To.{To}
 use Rattle.plum_host.specs.Counting.{CountsNothing}
 use Rattle.plum_host.specs.Told.{HostView}
-use Rattle.plum_replay.specs.Begun.{AppendsNothing, StopsAtAnEnd}
 use Rattle.plum.specs.declared.status.LimitOf.TheVariants.{Records}
 use Rattle.plum.specs.declared.status.Status.{Status}
 use Rattle.plum.specs.declared.status.Status.TheVariants.{Done, ReadFault, WriteFault, Limit}
@@ -16,7 +15,7 @@ use Rattle.plum.specs.Causes.{EndsAtAnInput, LeavesUnused}
 use Rattle.plum.specs.Files.{turn_of, FilesState}
 use Rattle.plum.specs.Job.{Job, replay, station, check}
 use Rattle.plum.specs.Plain.{TellsFiles, StopsInTelling}
-use Rattle.plum.specs.Replayed.{ReplaysFiles, StopsInReplay}
+use Rattle.plum.specs.Replayed.{AppendsNothing, ReplaysFiles, StopsInReplay}
 use Rattle.plum.specs.Status.{CountsEnd}
 
 -- What a command does: `replay` writes the two texts of a replay, the plain commands their own.
@@ -28,17 +27,7 @@ DoesJob (station setup stations capture code) before after =
 DoesJob (check setup stations targets capture) before after =
     TellsFiles (check setup stations targets capture) before after
 
--- What stands in the outputs where the capture is not read to its end: of a replay nothing is
--- appended.
-abbrev pub StopsReading : Job → HostView → HostView → Type 0
-StopsReading (replay setup stations targets capture journal) before after =
-    AppendsNothing before after
-StopsReading (station setup stations capture code) before after =
-    StopsInTelling (station setup stations capture code) before after
-StopsReading (check setup stations targets capture) before after =
-    StopsInTelling (check setup stations targets capture) before after
-
--- What stands there where a write fails or memory is short.
+-- What stands in the outputs where a fault breaks it off behind the files.
 abbrev pub BreaksOff : Job → HostView → HostView → Type 0
 BreaksOff (replay setup stations targets capture journal) before after =
     StopsInReplay (replay setup stations targets capture journal) before after
@@ -50,25 +39,17 @@ BreaksOff (check setup stations targets capture) before after =
 -- what stands in the outputs where it ended so
 abbrev pub AppendsEnd : Job → Status → HostView → HostView → Type 0
 AppendsEnd job Done before after = DoesJob job before after
-AppendsEnd job ReadFault before after = StopsReading job before after
-AppendsEnd job (Limit Records) before after = StopsReading job before after
+AppendsEnd job ReadFault before after = BreaksOff job before after
+AppendsEnd job (Limit Records) before after = BreaksOff job before after
 AppendsEnd job WriteFault before after = BreaksOff job before after
 AppendsEnd job NoMemory before after = BreaksOff job before after
 AppendsEnd job status before after = AppendsNothing before after
-
--- Of a replay a write fails before the capture is read or behind its end.
-abbrev pub WritesAtAnEnd : Job → HostView → HostView → Type 0
-WritesAtAnEnd (replay setup stations targets capture journal) before after =
-    StopsAtAnEnd before after
-WritesAtAnEnd (station setup stations capture code) before after = ⊤
-WritesAtAnEnd (check setup stations targets capture) before after = ⊤
 
 -- the parts of the promise of a call
 pub record HasEnded (job : Job) (status : Status) (before after : HostView) : Type 0 where
   pub at_an_input : EndsAtAnInput job status before after
   pub counts : CountsEnd status before after
   pub appends : AppendsEnd job status before after
-  pub write_at_an_end : status ≡ WriteFault → WritesAtAnEnd job before after
   pub unused : LeavesUnused job before after
 
 -- The work has come to the turn of this input: no input from it on is read yet, and nothing is

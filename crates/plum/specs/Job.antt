@@ -92,7 +92,13 @@ IsCheck (replay setup stations targets capture journal) = ⊥
 IsCheck (station setup stations capture code) = ⊥
 IsCheck (check setup stations targets capture) = ⊤
 
--- a plain command: one that writes no journal
+-- It is a plain command: one that writes no journal.
+abbrev pub IsPlain : Job → Type 0
+IsPlain (replay setup stations targets capture journal) = ⊥
+IsPlain (station setup stations capture code) = ⊤
+IsPlain (check setup stations targets capture) = ⊤
+
+-- a plain command, or nothing
 abbrev pub plain : Job → Option Job
 plain (replay setup stations targets capture journal) = None
 plain (station setup stations capture code) = Some (station setup stations capture code)

@@ -18,6 +18,7 @@ use Rattle.plum_seq.specs.Keys.{of_station, kept}
 use Rattle.plum_core.specs.History.{IsValidHistory, HoldsKept}
 use Rattle.plum_packet.specs.Bodies.{bodies_of}
 use Rattle.plum_packet.specs.Counts.{counts_in}
+use Rattle.plum_packet.specs.Reading.{HasNoneTooMany}
 use Rattle.plum_packet.specs.Segments.{Decoded, packets_in, refused_in, IsCaptureOf}
 use Rattle.plum_text.specs.declared.lines.OutLine.{OutLine}
 use Rattle.plum_text.specs.declared.lines.OutLine.TheVariants.{Refused, Tail}
@@ -28,7 +29,7 @@ use Rattle.plum_text.specs.Texts.{totals_line}
 use Rattle.plum_host.specs.declared.host.In.TheVariants as inputs
 use Rattle.plum_host.specs.declared.host.To.TheVariants.{Out, Journal}
 use Rattle.plum_host.specs.Told.{HostView, WhereTold, Appends}
-use Rattle.plum_replay.specs.Captured.{IsReadToEnd, HasNoneTooMany}
+use Rattle.plum_replay.specs.Captured.{IsReadToEnd}
 use Rattle.plum.specs.Files.{IsSetupFile, IsStationFile}
 use Rattle.plum.specs.Job.{Job, replay, station, check}
 

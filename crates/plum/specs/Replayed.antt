@@ -1,12 +1,13 @@
 -- What a replay did for the setup and the sites of its files.
-use Rattle.std.specs.Prelude.{◌⊎◌}
+use Rattle.std.specs.Prelude.{◌≡◌, ◌⊎◌, []}
 use Rattle.plum_base.specs.declared.setup.Setup.{Setup}
 use Rattle.plum_base.specs.Counts.{AddUp}
 use Rattle.plum_base.specs.Sites.{SitesView}
-use Rattle.plum_host.specs.Told.{HostView}
+use Rattle.plum_host.specs.declared.host.To.TheVariants.{Out, Journal}
+use Rattle.plum_host.specs.Told.{HostView, Appends}
 use Rattle.plum_replay.specs.declared.totals.Totals.{Totals}
 use Rattle.plum_replay.specs.Replayed.{ReplaysCapture, counts_in_all}
-use Rattle.plum_replay.specs.Begun.{AppendsNothing, BeginsReplay}
+use Rattle.plum_replay.specs.Begun.{BeginsReplay}
 use Rattle.plum.specs.Files.{FilesState}
 use Rattle.plum.specs.Job.{Job}
 
@@ -31,6 +32,11 @@ pub record ReplaysFiles (job : Job) (before after : HostView) : Type 0 where
   pub totals : Totals
   pub replays : ReplaysCapture setup sites totals before after
   pub sums : AddUp (counts_in_all totals)
+
+-- Nothing is appended to either output.
+pub record AppendsNothing (before after : HostView) : Type 0 where
+  pub journal : Appends (before.held Journal) (after.held Journal) []
+  pub output : after.held Out ≡ before.held Out
 
 -- The beginnings of the two texts of such a replay are appended.
 abbrev pub BeginsFiles : Job → HostView → HostView → Type 0

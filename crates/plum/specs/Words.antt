@@ -1,5 +1,5 @@
 -- The words of a command, as `clap` reads them: one simple command with required positional words.
-use Rattle.std.specs.Prelude.{◌≡◌, ℕ, List, [], ◌∷◌, Some, true, codes, drop, fold, map}
+use Rattle.std.specs.Prelude.{◌≡◌, List, [], ◌∷◌, Some, true, codes, drop, fold, map}
 use Rattle.clap.specs.Words.{App, Rule, Text, first_of, matches_of, new_app, new_rule, takes}
 use Rattle.clap.specs.Words.{with_rule}
 use Rattle.plum.specs.Job.{Job, replay, station, check, LAST_CODE, job_of, number_up_to}

@@ -9,6 +9,7 @@
 mod files;
 mod grammar;
 mod job;
+mod opening;
 mod run;
 mod status;
 mod tally;
@@ -21,15 +22,21 @@ mod work;
 pub use job::paths_of;
 use plum_base::NoMemory;
 use plum_host::StdHost;
+use plum_replay::OpenGate;
 pub use run::{run, run_plain};
 pub use status::{LimitOf, SitesFile, Status, status_number, status_text};
 use std::env;
 use std::io::{ErrorKind, Write};
 use std::process::ExitCode;
+use std::rt::{Env, Files};
+use std::sync::Wait;
+use std::thread::Threads;
 
 /// Does what the words of the command line ask for over files and standard output. Words that are
 /// no text are not of the grammar.
-fn start(rt: &HostRuntime) -> Result<Status, NoMemory> {
+fn start<R: Env + AllocGlobal + Files + Print + Threads + Wait + Sync>(
+    rt: &R,
+) -> Result<Status, NoMemory> {
     let alloc = rt.alloc();
     let args = match env::args(rt) {
         Ok(args) => args,
@@ -42,7 +49,7 @@ fn start(rt: &HostRuntime) -> Result<Status, NoMemory> {
     }
     let paths = paths_of(alloc, &words)?;
     let mut host = StdHost::new(rt, paths);
-    Ok(run(alloc, &words, &mut host))
+    Ok(run(rt, alloc, &words, &mut host, &OpenGate))
 }
 
 fn main(rt: HostRuntime) -> ExitCode {

@@ -4,9 +4,9 @@ ghost use Rattle.std.specs.Prelude.{◌≡◌, ◌↔◌, map, string_bytes, Non
 ghost use Rattle.std.specs.Prelude.{MatchOption, MatchResult, is_some, true};
 ghost use Rattle.plum.specs.Asked.{job_in};
 ghost use Rattle.plum.specs.Causes.{EndsAtAnInput, LeavesUnused};
-ghost use Rattle.plum.specs.Ended.{AppendsEnd, DoesJob, HasEnded, WritesAtAnEnd};
+ghost use Rattle.plum.specs.Ended.{AppendsEnd, DoesJob, HasEnded};
 ghost use Rattle.plum.specs.Files.{TellsLawfulFiles};
-ghost use Rattle.plum.specs.Job.{job_of, plain_job_of};
+ghost use Rattle.plum.specs.Job.{IsPlain, job_of, plain_job_of};
 ghost use Rattle.plum.specs.Status.{CountsEnd, MeetsNoFault, IsAnswerWithoutFault};
 ghost use Rattle.plum.specs.Status.{IsAnswerOverLawfulFiles};
 
@@ -16,8 +16,11 @@ use crate::status::Status;
 use crate::work::{check_files, replay_files, show_station};
 use plum_base::NoMemory;
 use plum_host::Host;
+use plum_replay::Gate;
 use plum_sites::files_have_one_answer;
 use std::alloc::Global;
+use std::sync::Wait;
+use std::thread::Threads;
 
 /// How the work ended that was done, or was not.
 fn status_of(work: Result<(), Status>) -> Status
@@ -29,19 +32,9 @@ fn status_of(work: Result<(), Status>) -> Status
     }
 }
 
-/// Does a job: how it ended.
-fn work<H: Host>(alloc: Global, job: Job<'_>, host: &mut H) -> Status
-    ensures { HasEnded (job_in job.entry) result (H.told host.old) (H.told host.new) }
-{
-    match job {
-        Job::Replay { .. } => status_of(replay_files(alloc, host)),
-        Job::Station { code, .. } => status_of(show_station(alloc, code, host)),
-        Job::Check { .. } => status_of(check_files(alloc, host)),
-    }
-}
-
-/// Does a job: over lawful files no file is refused.
-fn work_over_files<H: Host>(alloc: Global, job: Job<'_>, host: &mut H) -> Status
+/// Does the job of a plain command: how it ended.
+fn work_plain<H: Host>(alloc: Global, job: Job<'_>, host: &mut H) -> Status
+    requires plain { IsPlain (job_in job) }
     ensures ended { HasEnded (job_in job.entry) result (H.told host.old) (H.told host.new) }
     ensures lawful { MeetsNoFault (H.told host.old) (H.told host.new)
         → TellsLawfulFiles (job_in job.entry) (H.told host.old)
@@ -49,7 +42,32 @@ fn work_over_files<H: Host>(alloc: Global, job: Job<'_>, host: &mut H) -> Status
 {
     // For the contract: a file that states sites has no fault.
     files_have_one_answer();
-    work(alloc, job, host)
+    match job {
+        Job::Replay { .. } => unreachable!(),
+        Job::Station { code, .. } => status_of(show_station(alloc, code, host)),
+        Job::Check { .. } => status_of(check_files(alloc, host)),
+    }
+}
+
+/// Does a job: how it ended.
+fn work<R: Threads + Wait + Sync, H: Host, G: Gate + Sync>(
+    rt: &R,
+    alloc: Global,
+    job: Job<'_>,
+    host: &mut H,
+    gate: &G,
+) -> Status
+    ensures ended { HasEnded (job_in job.entry) result (H.told host.old) (H.told host.new) }
+    ensures lawful { MeetsNoFault (H.told host.old) (H.told host.new)
+        → TellsLawfulFiles (job_in job.entry) (H.told host.old)
+        → IsAnswerOverLawfulFiles result }
+{
+    // For the contract: a file that states sites has no fault.
+    files_have_one_answer();
+    match job {
+        Job::Replay { .. } => status_of(replay_files(rt, alloc, host, gate)),
+        plain => work_plain(alloc, plain, host),
+    }
 }
 
 /// The plain command that the words ask for, or none where they ask for nothing, or for `replay`.
@@ -94,17 +112,24 @@ pub fn run_plain<H: Host>(alloc: Global, words: &[String], host: &mut H) -> Stat
         LeavesUnused job (H.told host.old) (H.told host.new)) }
 {
     match read_plain(alloc, words) {
-        Ok(Some(job)) => work_over_files(alloc, job, host),
+        Ok(Some(job)) => work_plain(alloc, job, host),
         Ok(None) => Status::Usage,
         Err(NoMemory) => Status::NoMemory,
     }
 }
 
 /// Does what the words ask for: `replay` reads the setup, the stations and the targets, and writes
-/// the journal and the predictions of the capture over them; the plain commands as `run_plain`.
+/// the journal and the predictions of the capture over them; the plain commands as `run_plain`,
+/// without threads. The gate is that of the replay.
 ///
 /// What a host does not tell, no clause speaks of.
-pub fn run<H: Host>(alloc: Global, words: &[String], host: &mut H) -> Status
+pub fn run<R: Threads + Wait + Sync, H: Host, G: Gate + Sync>(
+    rt: &R,
+    alloc: Global,
+    words: &[String],
+    host: &mut H,
+    gate: &G,
+) -> Status
     // The words alone decide whether there is work. Without work nothing is read or written.
     ensures usage { (result ≡ Status.Usage) ↔ (job_of (map string_bytes words.now) ≡ None) }
     ensures idle { result ≡ Status.Usage → host.new ≡ host.old }
@@ -134,13 +159,9 @@ pub fn run<H: Host>(alloc: Global, words: &[String], host: &mut H) -> Status
     // The one failed read or write that ended the work is counted, and nothing else.
     ensures counts { CountsEnd result (H.told host.old) (H.told host.new) }
 
-    // Of a replay a write fails before the capture is read or behind its end.
-    ensures write_at_an_end { IfSome (job_of (map string_bytes words.now)) (λ job.
-        result ≡ Status.WriteFault → WritesAtAnEnd job (H.told host.old) (H.told host.new)) }
-
-    // What stands in the outputs. Of a replay, before the capture is read whole nothing is
-    // appended; then the two texts are, in order. A plain command appends nothing to the journal,
-    // and to the output, whatever stops it, a beginning of its text over the capture.
+    // What stands in the outputs. Of a replay the beginnings of two texts of one transcript, in
+    // order, whatever stops it, over the segments that were read. A plain command appends nothing to
+    // the journal, and to the output a beginning of its text over the capture.
     ensures outputs { IfSome (job_of (map string_bytes words.now)) (λ job.
         AppendsEnd job result (H.told host.old) (H.told host.new)) }
 
@@ -149,7 +170,7 @@ pub fn run<H: Host>(alloc: Global, words: &[String], host: &mut H) -> Status
         LeavesUnused job (H.told host.old) (H.told host.new)) }
 {
     match read_words(alloc, words) {
-        Ok(Some(job)) => work_over_files(alloc, job, host),
+        Ok(Some(job)) => work(rt, alloc, job, host, gate),
         Ok(None) => Status::Usage,
         Err(NoMemory) => Status::NoMemory,
     }

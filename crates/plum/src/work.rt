@@ -14,6 +14,7 @@ ghost use Rattle.plum.specs.Job.{Job, IsReplay, IsStation, IsCheck};
 ghost use Rattle.plum.specs.Status.{CountsEnd, status_of};
 
 use crate::files::{load_setup, load_stations, load_targets};
+use crate::opening::{end_centre, open_centre};
 use crate::status::{LimitOf, Status};
 use crate::tally::Tally;
 use crate::teller::Teller;
@@ -21,8 +22,10 @@ use crate::telling::tell_capture;
 use crate::watch::Watch;
 use plum_base::{NoMemory, Setup, Sites, TargetSite};
 use plum_host::Host;
-use plum_replay::{ReplayFault, replay};
+use plum_replay::{Gate, ReplayFault, replay};
 use std::alloc::Global;
+use std::sync::Wait;
+use std::thread::Threads;
 
 impl From<NoMemory> for Status {
     ghost from_gives = { λ _ status. status ≡ ends.NoMemory };
@@ -91,15 +94,32 @@ fn load_files<H: Host>(alloc: Global, with_targets: bool, host: &mut H) -> Resul
     Ok(Stated { setup, sites })
 }
 
-/// Replays the capture over what the files state.
-pub fn replay_files<H: Host>(alloc: Global, host: &mut H) -> Result<(), Status>
+/// Replays the capture over what the files state, by a centre of its own. Whatever the replay
+/// answers, the feeder of the centre is used up.
+pub fn replay_files<R: Threads + Wait + Sync, H: Host, G: Gate + Sync>(
+    rt: &R,
+    alloc: Global,
+    host: &mut H,
+    gate: &G,
+) -> Result<(), Status>
     ensures done { (job : Job) → IsReplay job → OnOk result
         (HasEnded job Status.Done (H.told host.old) (H.told host.new)) }
     ensures ended { (job : Job) → IsReplay job → IfErr result (λ status.
         HasEnded job status (H.told host.old) (H.told host.new)) }
 {
     let stated = load_files(alloc, true, host)?;
-    replay(alloc, &stated.sites, &stated.setup, host)?;
+    let mut centre = open_centre(rt, alloc, &stated.sites, &stated.setup)?;
+    let replayed = replay(
+        rt,
+        alloc,
+        &stated.sites,
+        &stated.setup,
+        &mut centre,
+        host,
+        gate,
+    );
+    let _sessions = end_centre(rt, centre);
+    replayed?;
     Ok(())
 }
 

@@ -1,6 +1,6 @@
-use Rattle.std.proofs.Common.{◌≡◌, ◌∙◌, List, map, string_bytes, Some, ap, codes, rules}
-use Rattle.clap.specs.Words.{Text, first_of, found_of, matches_of, rows_of, takes}
-use Rattle.plum.specs.Job.{Job, replay, LAST_CODE, job_of, number_up_to}
+use Rattle.std.proofs.Common.{◌≡◌, ◌∙◌, List, map, string_bytes, ap, codes, rules}
+use Rattle.clap.specs.Words.{Text, found_of, matches_of, rows_of, takes}
+use Rattle.plum.specs.Job.{Job, replay}
 use Rattle.plum.specs.Words.{app_for, app_with, ids_of}
 use Rattle.plum.proofs.Accepted.{asks_replay, replay_values}
 use Rattle.plum.proofs.job.read_replay.Goals as goal
@@ -23,7 +23,7 @@ returns c =
     let ids_are : map (λ id. id.now) c.as_slice.result.now ≡ ids_of job = search rules in
     let rows = rows_of (found_of c.in_ok-matches.matches) in
     let same : rows ≡ matches_of (app_for job) words = c.in_ok-matches.ensures
-        ∙ ap (λ (ids : List Text). matches_of (app_with (codes "replay") ids) words) ids_are in
+    ∙ ap (λ (ids : List Text). matches_of (app_with (codes "replay") ids) words) ids_are in
     let found = replay_values words rows asks read same in
     let setup = c.word.ensures asks.setup found.0 in
     let stations = c.word-2.ensures asks.stations found.1 in

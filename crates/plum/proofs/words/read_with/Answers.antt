@@ -1,6 +1,6 @@
 use Rattle.std.proofs.Common.{◌≡◌, ◌∙◌, map, string_bytes, ap, true}
 use Rattle.clap.specs.Simple.{App}
-use Rattle.clap.specs.Words.{app_of, is_simple, matches_of, takes}
+use Rattle.clap.specs.Words.{app_of, matches_of, takes}
 use Rattle.plum.proofs.Clapping.{taken_is_simple}
 use Rattle.plum.proofs.words.read_with.Goals as goal
 
@@ -14,6 +14,6 @@ pub returns-in-Ok : goal.returns-in-Ok
 returns-in-Ok c =
     let words = map string_bytes c.args.words.now in
     let taken : takes (app_of c.in_ok-command.command) words ≡ true =
-        ap (λ (a : App). takes a words) c.in_ok-command.ensures ∙ c.requires in
+    ap (λ (a : App). takes a words) c.in_ok-command.ensures ∙ c.requires in
     let simple = taken_is_simple (app_of c.in_ok-command.command) words taken in
     (c.in-Ok.ensures.matches simple).0 ∙ ap (λ (a : App). matches_of a words) c.in_ok-command.ensures

@@ -1,7 +1,8 @@
-use Rattle.std.proofs.Common.{Err, ap, inl, inr}
+use Rattle.std.proofs.Common.{Err, ap}
 use Rattle.std.proofs.lemmas.Result.{err_from_is_err_and}
 use Rattle.plum.proofs.Commands.{replay_uses_targets}
-use Rattle.plum.proofs.Endings.{ends_done, ends_in_the_replay}
+use Rattle.plum.proofs.Endings.{ends_behind_the_files, ends_done, ends_in_the_replay}
+use Rattle.plum.proofs.Turns.{comes_to_capture}
 use Rattle.plum.proofs.work.replay_files.Goals as goal
 
 pub returns-in_err-stated-clause-ended : goal.returns-in_err-stated-clause-ended
@@ -9,22 +10,30 @@ returns-in_err-stated-clause-ended g c =
     let p = err_from_is_err_and c.from_residual.result c.from_residual.ensures.1 in
     rw (p.1, p.2) (λ job is. c.in_err-stated.ensures.ended job (replay_uses_targets job is))
 
-pub returns-in_err-replay-clause-ended : goal.returns-in_err-replay-clause-ended
-returns-in_err-replay-clause-ended g c =
-    let p = err_from_is_err_and c.from_residual-in_err-replay.result
-    c.from_residual-in_err-replay.ensures.1 in
+pub returns-in_err-centre-clause-ended : goal.returns-in_err-centre-clause-ended
+returns-in_err-centre-clause-ended g c =
+    let p = err_from_is_err_and c.from_residual-in_err-centre.result
+    c.from_residual-in_err-centre.ensures.1 in
+    let first = g.H.Host.told c.args.host.now in
+    let stated = c.in_ok-stated.stated in
+    rw (p.1, p.2) (λ job is.
+    let read = c.in_ok-stated.ensures.read job (replay_uses_targets job is) in
+    ends_behind_the_files job first (g.H.Host.told c.load_files.new.host)
+    (comes_to_capture job first stated.setup stated.sites read.stated) read.at_turn read.unused)
+
+pub returns-in_err-replayed-clause-ended : goal.returns-in_err-replayed-clause-ended
+returns-in_err-replayed-clause-ended g c =
+    let p = err_from_is_err_and c.from_residual-in_err-replayed.result
+    c.from_residual-in_err-replayed.ensures.1 in
     let at = g.H.Host.told in
     let stated = c.in_ok-stated.stated in
-    let e = c.in_err-replay.ensures in
+    let e = c.in_err-replayed.ensures in
     rw (p.1, p.2) (λ job is. ends_in_the_replay job is stated.setup stated.sites _
-    (at c.args.host.now) (at c.load_files.new.host) (at c.replay.new.host)
+    (at c.args.host.now) (at c.load_files.new.host) (at c.replay-replayed.new.host)
     (c.in_ok-stated.ensures.read job (replay_uses_targets job is)) (record {
       read = λ same. e.read (ap (λ f. Err f) same);
       limit = λ same. e.limit (ap (λ f. Err f) same);
-      write = λ same. e.write (ap (λ f. Err f) same);
-      quiet_read = λ same. e.quiet (inl (ap (λ f. Err f) same));
-      quiet_limit = λ same. e.quiet (inr (ap (λ f. Err f) same));
-      in_order = e.in_order;
+      begun = e.in_order;
       counts = e.fault;
       other_inputs = e.other_inputs;
     }))
@@ -33,8 +42,8 @@ pub returns-clause-done : goal.returns-clause-done
 returns-clause-done g c = λ job is.
     let at = g.H.Host.told in
     let stated = c.in_ok-stated.stated in
-    let e = c.in_ok-replay.ensures in
-    ends_done job is stated.setup stated.sites c.in_ok-replay.field-0 (at c.args.host.now)
-    (at c.load_files.new.host) (at c.replay.new.host)
+    let e = c.in_ok-replayed.ensures in
+    ends_done job is stated.setup stated.sites c.in_ok-replayed.field-0 (at c.args.host.now)
+    (at c.load_files.new.host) (at c.replay-replayed.new.host)
     (c.in_ok-stated.ensures.read job (replay_uses_targets job is)) e.texts e.sums e.no_fault
     e.other_inputs
