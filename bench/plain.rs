@@ -1,8 +1,16 @@
-//! Replays a capture as `plum replay` does, with the standard library alone and nothing proved.
+//! Replays a capture as `plum replay` does, with the standard library alone and nothing proved, on one thread.
 //!
-//! It is what the proved program is compared with: the same work, and the same texts. It reads the setup and the site
-//! files in the form in which `bench/run` writes them. What it cannot read ends it with the status of such a file; why
-//! is not told, and what a file must keep besides is not tested.
+//! It is what the proved program is compared with: the same work, and the same texts where a capture has one mark. Where
+//! it has more, its readings are those of a run in which each session reads before the next segment is begun. It reads
+//! the setup and the site files in the form in which `bench/run` and `drill-files` write them. What it cannot read ends
+//! it with the status of such a file; why is not told, and what a file must keep besides is not tested.
+//!
+//!     plain replay SETUP STATIONS TARGETS CAPTURE JOURNAL
+//!     plain drill SEED STATIONS SECONDS
+//!     plain drill-files DIR SEED STATIONS SECONDS LANES
+//!
+//! `drill` replays made-up shaking and tells what is expected in the end. `drill-files` writes the files of such a
+//! replay, `setup.toml`, `stations.csv`, `targets.csv` and `capture`, for any number of stations and seconds.
 
 use std::collections::{HashMap, VecDeque};
 use std::env;
@@ -10,7 +18,9 @@ use std::fmt;
 use std::fs::{self, File};
 use std::io::{self, BufReader, BufWriter, Read, Write};
 use std::mem;
+use std::path::Path;
 use std::process::ExitCode;
+use std::str::FromStr;
 
 /// The body of a mark.
 const MARK: &[u8] = b"MK";
@@ -25,6 +35,9 @@ const MOST_RECORDS: u32 = 4_294_967_294;
 const MOST_STATIONS: usize = 4_096;
 const MOST_TARGETS: usize = 8_192;
 
+const STATION_HEADER: &str = "code,x,y,factor";
+const TARGET_HEADER: &str = "name,area,x,y,factor";
+
 const HEADER: usize = 14;
 const SAMPLE: usize = 12;
 const MOST_SAMPLES: u16 = 200;
@@ -38,6 +51,9 @@ const GREATEST: i64 = 1 << 30;
 
 /// Within how many metres a station is near a target.
 const RADIUS: i64 = 30_000;
+
+const USAGE: &str = "usage: replay SETUP STATIONS TARGETS CAPTURE JOURNAL; \
+                     drill SEED STATIONS SECONDS; drill-files DIR SEED STATIONS SECONDS LANES";
 
 /// Why a replay stopped.
 enum Stop {
@@ -65,7 +81,7 @@ impl Stop {
 impl fmt::Display for Stop {
     fn fmt(&self, f: &mut fmt::Formatter) -> fmt::Result {
         match self {
-            Stop::Usage => write!(f, "usage: replay SETUP STATIONS TARGETS CAPTURE JOURNAL"),
+            Stop::Usage => write!(f, "{USAGE}"),
             Stop::Setup => write!(f, "setup"),
             Stop::Sites(file) => write!(f, "{file}"),
             Stop::Read(error) => write!(f, "read fault: {error}"),
@@ -228,12 +244,6 @@ impl Segment {
     fn bodies(&self) -> usize {
         self.packets.len() + self.refused.len()
     }
-}
-
-/// The segments of a capture, and the length of its tail.
-struct Capture {
-    segments: Vec<Segment>,
-    tail: usize,
 }
 
 /// A kept packet without its samples, and the station's intensity after it.
@@ -508,14 +518,22 @@ fn read_setup(path: &str) -> Result<Setup, Stop> {
     Setup::read(&text).ok_or(Stop::Setup)
 }
 
+fn stations_in(text: &str) -> Option<Vec<StationSite>> {
+    read_rows(text, STATION_HEADER, MOST_STATIONS, station_of)
+}
+
+fn targets_in(text: &str) -> Option<Vec<TargetSite>> {
+    read_rows(text, TARGET_HEADER, MOST_TARGETS, target_of)
+}
+
 fn read_stations(path: &str) -> Result<Vec<StationSite>, Stop> {
     let text = fs::read_to_string(path).map_err(Stop::Read)?;
-    read_rows(&text, "code,x,y,factor", MOST_STATIONS, station_of).ok_or(Stop::Sites("stations"))
+    stations_in(&text).ok_or(Stop::Sites("stations"))
 }
 
 fn read_targets(path: &str) -> Result<Vec<TargetSite>, Stop> {
     let text = fs::read_to_string(path).map_err(Stop::Read)?;
-    read_rows(&text, "name,area,x,y,factor", MOST_TARGETS, target_of).ok_or(Stop::Sites("targets"))
+    targets_in(&text).ok_or(Stop::Sites("targets"))
 }
 
 /// Reads a record, length and all. Tells whether it is whole: else the input ended.
@@ -582,32 +600,55 @@ fn decode(sites: &Sites, body: &[u8]) -> Result<Packet, Fault> {
     })
 }
 
-/// Reads a capture to its end. A segment ends at a mark, where it is full, and at the end.
-fn read_capture(sites: &Sites, path: &str) -> Result<Capture, Stop> {
-    let mut input = BufReader::new(File::open(path).map_err(Stop::Read)?);
-    let mut segments = Vec::new();
-    let mut segment = Segment::default();
-    let mut record = Vec::new();
-    let mut number = 0;
-    while read_record(&mut input, &mut record).map_err(Stop::Read)? {
-        if number == MOST_RECORDS {
-            return Err(Stop::TooManyRecords);
-        }
-        number += 1;
-        let body = &record[2..];
-        let mark = body == MARK;
-        if !mark {
-            segment.push(sites, number, body);
-        }
-        if mark || segment.bodies() == SEGMENT_BODIES {
-            segments.push(mem::take(&mut segment));
+/// A capture that is read segment by segment. A segment ends at a mark, where it is full, and at the end.
+struct Capture<'a, I> {
+    input: I,
+    sites: &'a Sites,
+    /// The record that was read last. At the end it is the tail.
+    record: Vec<u8>,
+    records: u32,
+    ended: bool,
+}
+
+impl<'a, I: Read> Capture<'a, I> {
+    fn new(input: I, sites: &'a Sites) -> Capture<'a, I> {
+        Capture {
+            input,
+            sites,
+            record: Vec::new(),
+            records: 0,
+            ended: false,
         }
     }
-    segments.push(segment);
-    Ok(Capture {
-        segments,
-        tail: record.len(),
-    })
+
+    /// The next segment, and none behind the last.
+    fn next_segment(&mut self) -> Result<Option<Segment>, Stop> {
+        if self.ended {
+            return Ok(None);
+        }
+        let mut segment = Segment::default();
+        while read_record(&mut self.input, &mut self.record).map_err(Stop::Read)? {
+            if self.records == MOST_RECORDS {
+                return Err(Stop::TooManyRecords);
+            }
+            self.records += 1;
+            let body = &self.record[2..];
+            if body == MARK {
+                return Ok(Some(segment));
+            }
+            segment.push(self.sites, self.records, body);
+            if segment.bodies() == SEGMENT_BODIES {
+                return Ok(Some(segment));
+            }
+        }
+        self.ended = true;
+        Ok(Some(segment))
+    }
+
+    /// How many bytes stand behind the last whole record, once there is no next segment.
+    fn tail(&self) -> usize {
+        self.record.len()
+    }
 }
 
 /// A stage at work, and the two numbers of its input and of its output before, newest first.
@@ -989,11 +1030,23 @@ impl<'a, J: Write, O: Write> Replay<'a, J, O> {
         Ok(())
     }
 
-    fn end(mut self, tail: usize) -> io::Result<()> {
+    fn totals(&self) -> String {
+        format!("Z {} {}", self.segments, self.counts)
+    }
+
+    fn end(&mut self, tail: usize) -> io::Result<()> {
         writeln!(self.output, "T {tail}")?;
-        writeln!(self.output, "Z {} {}", self.segments, self.counts)?;
+        writeln!(self.output, "{}", self.totals())?;
         self.journal.flush()?;
         self.output.flush()
+    }
+
+    /// Replays a whole capture, a segment at a time.
+    fn work_all(&mut self, mut capture: Capture<'_, impl Read>) -> Result<(), Stop> {
+        while let Some(segment) = capture.next_segment()? {
+            self.work(segment).map_err(Stop::Write)?;
+        }
+        self.end(capture.tail()).map_err(Stop::Write)
     }
 }
 
@@ -1003,24 +1056,201 @@ fn replay(paths: [&str; 5]) -> Result<(), Stop> {
     let sites = Sites::new(read_stations(stations)?, read_targets(targets)?);
     let journal = BufWriter::new(File::create(journal).map_err(Stop::Write)?);
     let output = BufWriter::new(io::stdout().lock());
-    let capture = read_capture(&sites, capture)?;
-    let mut replay = Replay::new(&setup, &sites, journal, output);
-    for segment in capture.segments {
-        replay.work(segment).map_err(Stop::Write)?;
+    let input = BufReader::new(File::open(capture).map_err(Stop::Read)?);
+    Replay::new(&setup, &sites, journal, output).work_all(Capture::new(input, &sites))
+}
+
+/// A made-up shaking of so many stations for so many seconds, and the number from which it is drawn.
+#[derive(Clone, Copy)]
+struct Drill {
+    seed: u64,
+    stations: u16,
+    seconds: u32,
+}
+
+const DRILL_BOOT: u16 = 1;
+const DRILL_SAMPLES: u16 = 100;
+const DRILL_TARGETS: u16 = 64;
+
+/// The shaking grows for so many seconds.
+const DRILL_GROWS: u32 = 60;
+
+/// The stages: b0, b1, b2, a1, a2, as multiples of 2^-20, and the rounding. They are no filter of any standard.
+const DRILL_STAGES: [([i64; 5], &str); 6] = [
+    ([1_048_576, -1_048_576, 0, -1_043_333, 0], "nearest"),
+    ([262_144, 0, 0, -786_432, 0], "nearest"),
+    ([524_288, 524_288, 0, 0, 0], "floor"),
+    ([1_048_576, -1_048_576, 0, -1_043_333, 0], "nearest"),
+    ([524_288, 0, 0, -524_288, 0], "nearest"),
+    ([1_048_576, 0, 0, 0, 0], "nearest"),
+];
+
+/// The linear congruential generator of 64 bits whose upper half is drawn.
+struct Draws(u64);
+
+impl Draws {
+    fn draw(&mut self) -> u32 {
+        self.0 = self
+            .0
+            .wrapping_mul(6_364_136_223_846_793_005)
+            .wrapping_add(1_442_695_040_888_963_407);
+        (self.0 >> 32) as u32
     }
-    replay.end(capture.tail).map_err(Stop::Write)
+
+    /// A number from the negative of the greatest up to it.
+    fn component(&mut self, greatest: u32) -> i32 {
+        (self.draw() % (2 * greatest + 1)) as i32 - greatest as i32
+    }
+}
+
+fn drill_setup(lanes: u16) -> String {
+    let stages: String = DRILL_STAGES
+        .iter()
+        .map(|([b0, b1, b2, a1, a2], round)| {
+            format!(
+                "\n[[stage]]\nb0 = {b0}\nb1 = {b1}\nb2 = {b2}\na1 = {a1}\na2 = {a2}\n\
+                 q = 20\nround = \"{round}\"\n"
+            )
+        })
+        .collect();
+    let thresholds: Vec<u64> = (0..=50)
+        .map(|i| if i == 0 { 0 } else { 1 << (i + 5) })
+        .collect();
+    format!(
+        "lanes = {lanes}\nqueue = 256\n\n[gain]\ng = 1\nh = 0\n{stages}\n\
+         [levels]\nbase = 0\nthresholds = {thresholds:?}\n\n\
+         [rules]\nraise = \"4\"\ncancel = \"3\"\ncalm = 5\n"
+    )
+}
+
+fn drill_stations(count: u16) -> String {
+    let rows = (0..u32::from(count)).map(|i| {
+        let (x, y) = (4_000 * (i % 20), 4_000 * (i / 20));
+        format!("{},{x},{y},{}\n", i + 1, (i % 5) as i32 - 2)
+    });
+    format!("{STATION_HEADER}\n{}", rows.collect::<String>())
+}
+
+fn drill_targets() -> String {
+    let rows = (0..DRILL_TARGETS).map(|j| {
+        let (column, row) = (u32::from(j % 8), u32::from(j / 8));
+        let (x, y) = (10_000 * column, 10_000 * row);
+        format!("t{j:02},a{column},{x},{y},{}\n", i32::from(j % 3) - 1)
+    });
+    format!("{TARGET_HEADER}\n{}", rows.collect::<String>())
+}
+
+impl Drill {
+    fn write_packet(
+        &self,
+        out: &mut impl Write,
+        draws: &mut Draws,
+        second: u32,
+        code: u16,
+    ) -> io::Result<()> {
+        let greatest = 100 + 1_000 * second.min(DRILL_GROWS);
+        let length = HEADER + SAMPLE * usize::from(DRILL_SAMPLES);
+        let mut record = Vec::with_capacity(2 + length);
+        record.extend((length as u16).to_be_bytes());
+        record.extend(b"PL\x01\x00");
+        record.extend(code.to_be_bytes());
+        record.extend(DRILL_BOOT.to_be_bytes());
+        record.extend(second.to_be_bytes());
+        record.extend(DRILL_SAMPLES.to_be_bytes());
+        for _ in 0..3 * DRILL_SAMPLES {
+            record.extend(draws.component(greatest).to_be_bytes());
+        }
+        out.write_all(&record)
+    }
+
+    /// Each second a packet of each station, and then a mark.
+    fn write_capture(&self, mut out: impl Write) -> io::Result<()> {
+        let mut draws = Draws(self.seed);
+        for second in 0..self.seconds {
+            for code in 1..=self.stations {
+                self.write_packet(&mut out, &mut draws, second, code)?;
+            }
+            out.write_all(&(MARK.len() as u16).to_be_bytes())?;
+            out.write_all(MARK)?;
+        }
+        out.flush()
+    }
+
+    fn write_files(&self, folder: &Path, lanes: u16) -> io::Result<()> {
+        fs::create_dir_all(folder)?;
+        fs::write(folder.join("setup.toml"), drill_setup(lanes))?;
+        fs::write(folder.join("stations.csv"), drill_stations(self.stations))?;
+        fs::write(folder.join("targets.csv"), drill_targets())?;
+        let capture = File::create(folder.join("capture"))?;
+        self.write_capture(BufWriter::new(capture))
+    }
+
+    /// Replays the drill in memory, and tells its totals and what is predicted at the last mark.
+    fn tell(&self) -> Result<(), Stop> {
+        let setup = Setup::read(&drill_setup(1)).ok_or(Stop::Setup)?;
+        let stations =
+            stations_in(&drill_stations(self.stations)).ok_or(Stop::Sites("stations"))?;
+        let targets = targets_in(&drill_targets()).ok_or(Stop::Sites("targets"))?;
+        let sites = Sites::new(stations, targets);
+        let mut bytes = Vec::new();
+        self.write_capture(&mut bytes).map_err(Stop::Write)?;
+        let (mut journal, mut output) = (Vec::new(), Vec::new());
+        let mut replay = Replay::new(&setup, &sites, &mut journal, &mut output);
+        replay.work_all(Capture::new(bytes.as_slice(), &sites))?;
+        let (last, totals) = (format!("P {} ", replay.segments), replay.totals());
+        let output = String::from_utf8_lossy(&output);
+        let answers = output.lines().filter(|line| line.starts_with(&last));
+        let summary: String = answers.map(|line| format!("{line}\n")).collect();
+        let Drill {
+            seed,
+            stations,
+            seconds,
+        } = self;
+        let mut out = io::stdout().lock();
+        write!(
+            out,
+            "drill {seed} {stations} {seconds}\n{totals}\n{summary}"
+        )
+        .map_err(Stop::Write)
+    }
 }
 
 fn is_path(word: &str) -> bool {
     !word.is_empty() && !word.starts_with('-')
 }
 
+/// A number of decimal digits, from one to another.
+fn number<T: FromStr + PartialOrd>(word: &str, least: T, most: T) -> Result<T, Stop> {
+    let digits = (1..=20).contains(&word.len()) && word.bytes().all(|b| b.is_ascii_digit());
+    let found = word.parse().ok().filter(|n| (least..=most).contains(n));
+    found.filter(|_| digits).ok_or(Stop::Usage)
+}
+
 fn run() -> Result<(), Stop> {
     let words: Vec<String> = env::args().skip(1).collect();
     let words: Vec<&str> = words.iter().map(String::as_str).collect();
-    match words.as_slice() {
-        ["replay", paths @ ..] if paths.iter().all(|path| is_path(path)) => {
+    match *words.as_slice() {
+        ["replay", ref paths @ ..] if paths.iter().all(|path| is_path(path)) => {
             replay(paths.try_into().map_err(|_| Stop::Usage)?)
+        }
+        ["drill", seed, stations, seconds] => {
+            let drill = Drill {
+                seed: number(seed, 0, u64::MAX)?,
+                stations: number(stations, 1, 400)?,
+                seconds: number(seconds, 1, 300)?,
+            };
+            drill.tell()
+        }
+        ["drill-files", folder, seed, stations, seconds, lanes] => {
+            let drill = Drill {
+                seed: number(seed, 0, u64::MAX)?,
+                stations: number(stations, 1, MOST_STATIONS as u16)?,
+                seconds: number(seconds, 1, u32::MAX)?,
+            };
+            let lanes = number(lanes, 1, 16)?;
+            drill
+                .write_files(Path::new(folder), lanes)
+                .map_err(Stop::Write)
         }
         _ => Err(Stop::Usage),
     }
