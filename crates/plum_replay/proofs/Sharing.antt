@@ -2,7 +2,7 @@
 use Rattle.std.proofs.Common.{◌≡◌, ◌≢◌, ℕ, ◌<◌, ◌==◌, true, false}
 use Rattle.std.proofs.Common.{List, [], ◌∷◌, ◌++◌, length, map, set, get_or, get_or-set_same}
 use Rattle.std.proofs.Common.{get_or-set_other, length-set, refl, sym, ap, ◌∙◌, subst}
-use Rattle.std.proofs.Common.{arith}
+use Rattle.std.proofs.Common.{arith, append_assoc, length-append}
 use Rattle.std.specs.Prelude.{All, Result, Ok, Err, IfOk, OnOk}
 use Rattle.std.proofs.lemmas.Bool.{eq-eqb, eqb-true, ne_eqb}
 use Rattle.std.proofs.lemmas.List.{length-map, get_or-map, append-nil}
@@ -21,8 +21,8 @@ use Rattle.plum_lanes.specs.Opening.{Opening}
 use Rattle.plum_replay.proofs.ByLanes.{few_of_lane}
 use Rattle.plum_replay.proofs.Lists.{some_of}
 use Rattle.plum_replay.specs.declared.round.taking.Share.{Share}
-use Rattle.plum_replay.specs.Pieces.{TookMore, CanTakeParts, TakeParts, AreShares, CanShare}
-use Rattle.plum_replay.specs.Pieces.{HaveShared, lane_in}
+use Rattle.plum_replay.specs.Pieces.{CanTakePart, TakesPart, CanTakeParts, TakeParts, IsDone}
+use Rattle.plum_replay.specs.Pieces.{AreShares, CanShare, HaveShared, lane_in}
 
 -- the packets of a lane, with one more of it
 of_lane-own : (lanes i : ℕ) (packets : List Packet) (p : Packet)
@@ -107,7 +107,6 @@ module _ (opening : Opening) (packets : List Packet) (lanes : List Lane)
           few =
               rw theirs (omega (arith, room.few, few_of_lane n i packets));
         };
-        free = ap waiting_in (sym at) ∙ can.free i lane less';
         own =
             subst (All (IsForLane opening i)) (sym theirs) (λ k q within. (
               listed k q within,
@@ -117,16 +116,22 @@ module _ (opening : Opening) (packets : List Packet) (lanes : List Lane)
       }
 
   module _ (after : List Share) (long : length after ≡ length shares)
-      (took : TakeParts shares after) (done : All (λ share. share.done ≡ true) after) where
-    -- So they did, where all are done.
-    took_at : (i : ℕ) (d : Share) → i < length shares
-        → TookMore opening i (of_lane (length lanes) i packets) (get_or shares i d).lane
-        (get_or after i d).lane
-    took_at i d less =
-        subst (λ ps. TookMore opening i ps (get_or shares i d).lane (get_or after i d).lane)
-        (are.each i d less)
-        ((took i d less).took opening (CanTakeParts-shared i d less)
-        (done i d (subst (λ m. i < m) (sym long) less)))
+      (took : TakeParts shares after) (done : All IsDone after) where
+    done_at : (i : ℕ) (d : Share) → i < length shares → IsDone (get_or after i d)
+    done_at i d less = done i d (subst (λ m. i < m) (sym long) less)
+
+    -- So each took all of its packets, where all are done.
+    took_at : (i : ℕ) (d : Share) (taken : List Packet) → i < length shares
+        → HasTaken opening i taken (get_or shares i d).lane
+        → HasTaken opening i (taken ++ of_lane (length lanes) i packets) (get_or after i d).lane
+    took_at i d taken less has =
+        let part = took i d less in
+        let all : part.front ≡ of_lane (length lanes) i packets =
+        sym (append-nil part.front)
+        ∙ ap (λ ps. part.front ++ ps) (sym (done_at i d less).none_left)
+        ∙ sym part.left ∙ are.each i d less in
+        subst (λ ps. HasTaken opening i (taken ++ ps) (get_or after i d).lane) all
+        (part.has opening taken (CanTakeParts-shared i d less) has)
 
     pub HaveShared-taken : HaveShared opening packets lanes (map lane_in after)
     HaveShared-taken =
@@ -146,34 +151,118 @@ module _ (opening : Opening) (packets : List Packet) (lanes : List Lane)
               subst (λ (lane : Lane).
               HasTaken opening i (lanes_of opening.basis.setup.lanes) lane) (sym is)
               (subst (λ m. HasTaken opening i (lanes_of m) (get_or after i share).lane) can.all
-              ((took_at i share less').taken taken (subst (HasTaken opening i taken) was has)));
+              (took_at i share taken less' (subst (HasTaken opening i taken) was has)));
           free = λ i d less.
               let less' : i < length shares =
               subst (λ m. i < m) (sym before) (subst (λ m. i < m) same less) in
               let share : Share = some_of shares i less' in
               let is : get_or (map lane_in after) i d ≡ (get_or after i share).lane =
               get_or-map lane_in after i share d (subst (λ m. i < m) (sym long) less') in
-              ap waiting_in is ∙ (took_at i share less').free;
+              ap waiting_in is ∙ (done_at i share less').free;
         }
 
--- The next of a lane's packets is for it.
-pub own_next : (opening : Opening) (i : ℕ) (before : List Packet) (p : Packet)
-    (later all : List Packet) → all ≡ before ++ p ∷ later → All (IsForLane opening i) all
-    → IsForLane opening i p
-own_next opening i [] p later all split own =
-    All-head (IsForLane opening i) p later (subst (All (IsForLane opening i)) split own)
-own_next opening i (first ∷ before) p later all split own =
-    own_next opening i before p later (before ++ p ∷ later) refl
-    (All-tail (IsForLane opening i) first (before ++ p ∷ later)
+-- ---- a lane that goes on
+
+-- What is left of a list of which each element is so.
+own_left : (opening : Opening) (i : ℕ) (front rest all : List Packet) → all ≡ front ++ rest
+    → All (IsForLane opening i) all → All (IsForLane opening i) rest
+own_left opening i [] rest all split own = subst (All (IsForLane opening i)) split own
+own_left opening i (first ∷ front) rest all split own =
+    own_left opening i front rest (front ++ rest) refl
+    (All-tail (IsForLane opening i) first (front ++ rest)
     (subst (All (IsForLane opening i)) split own))
+
+-- It can take what is left.
+pub CanTakePart-left : (opening : Opening) (i : ℕ) (a b : Share) → TakesPart i a b
+    → CanTakePart opening i a → CanTakePart opening i b
+CanTakePart-left opening i a b takes can =
+    let taken = can.room.taken in
+    record {
+      room = record {
+        taken = taken ++ takes.front;
+        has = takes.has opening taken can can.room.has;
+        few =
+            omega (
+              arith,
+              can.room.few,
+              ap length takes.left ∙ length-append takes.front b.packets.items,
+              length-append taken takes.front,
+            );
+      };
+      own = own_left opening i takes.front b.packets.items a.packets.items takes.left can.own;
+    }
+
+-- It takes none: what waited was sent, or waits on.
+pub TakesPart-none : (i : ℕ) (a b : Share) → a.packets.items ≡ b.packets.items
+    → ((opening : Opening) (taken : List Packet)
+    → HasTaken opening i taken a.lane → HasTaken opening i taken b.lane)
+    → TakesPart i a b
+TakesPart-none i a b same clear = record {
+  front = [];
+  left = same;
+  has = λ opening taken can has.
+      subst (λ ps. HasTaken opening i ps b.lane) (sym (append-nil taken))
+      (clear opening taken has);
+}
+
+-- It takes its next packet: nothing waited, or what did was sent before.
+pub TakesPart-one : (i : ℕ) (a b : Share) (cleared : Lane) (p : Packet)
+    → a.packets.items ≡ p ∷ b.packets.items
+    → ((opening : Opening) (taken : List Packet)
+    → HasTaken opening i taken a.lane → HasTaken opening i taken cleared)
+    → ((opening : Opening) (taken : List Packet)
+    → HasTaken opening i taken cleared → IsForLane opening i p
+    → HasTaken opening i (taken ++ p ∷ []) b.lane)
+    → TakesPart i a b
+TakesPart-one i a b cleared p next clear take = record {
+  front = p ∷ [];
+  left = next;
+  has = λ opening taken can has.
+      take opening taken (clear opening taken has)
+      (All-head (IsForLane opening i) p b.packets.items
+      (subst (All (IsForLane opening i)) next can.own));
+}
+
+-- It takes no step.
+pub TakesPart-self : (i : ℕ) (a : Share) → TakesPart i a a
+TakesPart-self i a = TakesPart-none i a a refl (λ opening taken has. has)
+
+-- It goes on by two steps.
+pub TakesPart-then : (i : ℕ) (a b c : Share) → TakesPart i a b → TakesPart i b c
+    → TakesPart i a c
+TakesPart-then i a b c first then = record {
+  front = first.front ++ then.front;
+  left =
+      first.left ∙ ap (λ ps. first.front ++ ps) then.left
+      ∙ sym (append_assoc first.front then.front c.packets.items);
+  has = λ opening taken can has.
+      subst (λ ps. HasTaken opening i ps c.lane) (append_assoc taken first.front then.front)
+      (then.has opening (taken ++ first.front) (CanTakePart-left opening i a b first can)
+      (first.has opening taken can has));
+}
+
+-- So it is with all of them.
+pub CanTakeParts-left : (opening : Opening) (a b : List Share) → length b ≡ length a
+    → TakeParts a b → CanTakeParts opening a → CanTakeParts opening b
+CanTakeParts-left opening a b long takes can i d less =
+    let less' : i < length a = subst (λ m. i < m) long less in
+    CanTakePart-left opening i (get_or a i d) (get_or b i d) (takes i d less') (can i d less')
+
+pub TakeParts-self : (a : List Share) → TakeParts a a
+TakeParts-self a i d less = TakesPart-self i (get_or a i d)
+
+pub TakeParts-then : (a b c : List Share) → length b ≡ length a → TakeParts a b
+    → TakeParts b c → TakeParts a c
+TakeParts-then a b c long first then i d less =
+    TakesPart-then i (get_or a i d) (get_or b i d) (get_or c i d) (first i d less)
+    (then i d (subst (λ m. i < m) (sym long) less))
 
 -- The lanes that came back have their packets.
 pub HaveShared-back : {V : Type 0} (back : Result V NoMemory) (items : V → List Lane)
     (opening : Opening) (packets : List Packet) (lanes : List Lane) (after : List Share)
     → IfOk back (λ v. items v ≡ map lane_in after)
-    → OnOk back (All (λ share. share.done ≡ true) after)
-    → (All (λ share. share.done ≡ true) after
-    → HaveShared opening packets lanes (map lane_in after))
+    → OnOk back (All IsDone after)
+    → (All IsDone after → HaveShared opening packets lanes (map lane_in after))
     → IfOk back (λ v. HaveShared opening packets lanes (items v))
 HaveShared-back (Ok v) items opening packets lanes after are done have =
     subst (HaveShared opening packets lanes) (sym are) (have done)

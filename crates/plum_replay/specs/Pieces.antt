@@ -1,5 +1,5 @@
 -- The pieces of a round's work (the project's own): for the steps within a call.
-use Rattle.std.specs.Prelude.{◌≡◌, ℕ, ◌+◌, ◌<◌, ◌≤◌, true, List, ◌++◌, length, map}
+use Rattle.std.specs.Prelude.{◌≡◌, ℕ, ◌+◌, ◌<◌, ◌≤◌, true, List, [], ◌++◌, length, map}
 use Rattle.std.specs.Prelude.{slice_index_or, All, None}
 use Rattle.plum_base.specs.declared.packet.Packet.{Packet}
 use Rattle.plum_base.specs.Packet.{AreListed}
@@ -18,27 +18,23 @@ use Rattle.plum_replay.specs.Rounds.{HasLooked, HasRoom}
 
 -- ---- a lane, with its packets
 
--- The lane of this number can take these packets: they are for it, and nothing waits in it.
-pub record CanTake (opening : Opening) (number : ℕ) (packets : List Packet) (lane : Lane)
-    : Type 0 where
-  pub room : HasRoom opening number packets lane
-  pub free : waiting_in lane ≡ None
-  pub own : All (IsForLane opening number) packets
+-- The lane, which has this number, can take its packets: they are for it.
+pub record CanTakePart (opening : Opening) (number : ℕ) (share : Share) : Type 0 where
+  pub room : HasRoom opening number share.packets.items share.lane
+  pub own : All (IsForLane opening number) share.packets.items
 
--- It took them, behind whatever it had taken, and nothing waits in it.
-pub record TookMore (opening : Opening) (number : ℕ) (packets : List Packet) (before after : Lane)
-    : Type 0 where
-  pub taken : (taken : List Packet) → HasTaken opening number taken before
-      → HasTaken opening number (taken ++ packets) after
-  pub free : waiting_in after ≡ None
-
-abbrev pub CanTakePart : Opening → ℕ → Share → Type 0
-CanTakePart opening number share = CanTake opening number share.packets.items share.lane
-
--- Where it is done, the lane took its packets.
+-- It took a front of them, behind whatever it had taken, and the rest is left.
 pub record TakesPart (number : ℕ) (before after : Share) : Type 0 where
-  pub took : (opening : Opening) → CanTakePart opening number before → after.done ≡ true
-      → TookMore opening number before.packets.items before.lane after.lane
+  pub front : List Packet
+  pub left : before.packets.items ≡ front ++ after.packets.items
+  pub has : (opening : Opening) (taken : List Packet) → CanTakePart opening number before
+      → HasTaken opening number taken before.lane
+      → HasTaken opening number (taken ++ front) after.lane
+
+-- None of its packets is left, and nothing waits in the lane.
+pub record IsDone (share : Share) : Type 0 where
+  pub none_left : share.packets.items ≡ []
+  pub free : waiting_in share.lane ≡ None
 
 abbrev pub CanTakeParts : Opening → List Share → Type 0
 CanTakeParts opening shares =

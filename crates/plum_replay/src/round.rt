@@ -7,25 +7,28 @@ ghost use Rattle.plum_centre.specs.Centre.{CentreId};
 ghost use Rattle.plum_core.specs.Transcript.{of_lane};
 ghost use Rattle.plum_lanes.specs.Opening.{Opening};
 ghost use Rattle.plum_replay.specs.Pieces.{CanFeed, HasFed, CanTakeParts, TakeParts, AllLook};
-ghost use Rattle.plum_replay.specs.Pieces.{AreShares, CanShare, HaveShared, lane_in, session_in};
+ghost use Rattle.plum_replay.specs.Pieces.{IsDone, AreShares, CanShare, HaveShared};
+ghost use Rattle.plum_replay.specs.Pieces.{lane_in, session_in};
 ghost use Rattle.plum_replay.specs.Rounds.{CanWork, HasWorked};
 
 mod feeding;
 mod looking;
+mod signals;
 mod taking;
 
 use crate::gate::Gate;
 use crate::round::feeding::feed;
 use crate::round::looking::{Watch, look_all};
+use crate::round::signals::Signals;
 use crate::round::taking::{Share, take_parts};
 use plum_base::{NoMemory, Packet};
 use plum_centre::{Centre, Feeder};
 use plum_lanes::Lane;
 use plum_snap::Session;
 use std::alloc::Global;
+use std::collections::VecDeque;
 use std::mem;
 use std::sync::Wait;
-use std::sync::atomic::{AtomicBool, AtomicU64};
 use std::thread::{Threads, join_mut};
 
 /// The number of a lane or of a session, for the gate. There are far fewer.
@@ -43,8 +46,7 @@ fn shares_of(alloc: Global, lanes: Vec<Lane>) -> Result<Vec<Share>, NoMemory>
     for lane in lanes {
         shares.push(Share {
             lane,
-            packets: Vec::new(alloc),
-            done: false,
+            packets: VecDeque::new(alloc),
         })?;
     }
     Ok(shares)
@@ -56,7 +58,7 @@ fn give(share: &mut Share, packet: Packet) -> Result<(), NoMemory>
     ensures packets { OnOk result
         (share.new.packets.items ≡ share.old.packets.items ++ packet ∷ []) }
 {
-    Ok(share.packets.push(packet)?)
+    Ok(share.packets.push_back(packet)?)
 }
 
 /// Each lane, with its packets of these.
@@ -77,11 +79,11 @@ fn share_out(alloc: Global, lanes: Vec<Lane>, packets: Vec<Packet>) -> Result<Ve
 /// The lanes again, unless one of them has not taken all.
 fn lanes_of(alloc: Global, shares: Vec<Share>) -> Result<Vec<Lane>, NoMemory>
     ensures lanes { IfOk result (λ lanes. lanes.items ≡ map lane_in shares.items) }
-    ensures done { OnOk result (All (λ share. share.done ≡ true) shares.items) }
+    ensures done { OnOk result (All IsDone shares.items) }
 {
     let mut lanes = Vec::new(alloc);
     for share in shares {
-        if !share.done {
+        if !share.is_done() {
             return Err(NoMemory);
         }
         lanes.push(share.lane)?;
@@ -121,11 +123,9 @@ fn sessions_of(alloc: Global, watches: Vec<Watch>) -> Result<Vec<Session>, NoMem
 /// The lanes take their packets while the sessions read.
 fn take_and_look<R: Threads + Wait + Sync, G: Gate + Sync>(
     rt: &R,
-    alloc: Global,
     gate: &G,
     round: u32,
-    stop: &AtomicBool,
-    ended: &AtomicU64,
+    signals: &Signals,
     shares: &mut [Share],
     watches: &mut [Watch],
 )
@@ -137,19 +137,18 @@ fn take_and_look<R: Threads + Wait + Sync, G: Gate + Sync>(
         rt,
         &mut ||
             ensures { AllLook watches.entry.now watches.exit.now }
-        { look_all(rt, gate, round, stop, watches) },
+        { look_all(rt, gate, round, signals, watches) },
         &mut ||
             requires { (opening : Opening) × CanTakeParts opening shares.now }
             ensures { TakeParts shares.entry.now shares.exit.now }
-        { take_parts(rt, alloc, gate, round, stop, ended, shares) },
+        { take_parts(rt, gate, round, signals, shares) },
     );
 }
 
 /// The feeder turns beside them, until the lanes have ended. It turns last where no thread can be
-/// made for it, so that it finds them so.
+/// made for it: a lane that finds the queue full then ends with packets left.
 fn side_by_side<R: Threads + Wait + Sync, G: Gate + Sync>(
     rt: &R,
-    alloc: Global,
     gate: &G,
     round: u32,
     shares: &mut [Share],
@@ -163,8 +162,7 @@ fn side_by_side<R: Threads + Wait + Sync, G: Gate + Sync>(
     ensures fed { HasFed feeder.old feeder.new }
     ensures allowed { OnOk result (feeder.new.refused ≡ false) }
 {
-    let stop = AtomicBool::new(false);
-    let ended = AtomicU64::new(0);
+    let signals = Signals::new();
     let lanes = shares.len() as u64;
     let (fed, _) = join_mut(
         rt,
@@ -172,14 +170,39 @@ fn side_by_side<R: Threads + Wait + Sync, G: Gate + Sync>(
             requires { CanFeed feeder.now }
             ensures { HasFed feeder.entry.now feeder.exit.now
                 × OnOk result (feeder.exit.now.refused ≡ false) }
-        { feed(rt, gate, round, &stop, &ended, lanes, feeder) },
+        { feed(rt, gate, round, &signals, lanes, feeder) },
         &mut ||
             requires { (opening : Opening) × CanTakeParts opening shares.now }
             ensures { TakeParts shares.entry.now shares.exit.now
                 × AllLook watches.entry.now watches.exit.now }
-        { take_and_look(rt, alloc, gate, round, &stop, &ended, shares, watches) },
+        { take_and_look(rt, gate, round, &signals, shares, watches) },
     );
     fed
+}
+
+/// They go again, as long as a lane is not done. Each time the feeder has emptied the queue, so
+/// that a lane goes on by an entry at least, also where no thread is ever made for the feeder.
+fn go_again<R: Threads + Wait + Sync, G: Gate + Sync>(
+    rt: &R,
+    gate: &G,
+    round: u32,
+    shares: &mut [Share],
+    feeder: &mut Feeder,
+) -> Result<(), NoMemory>
+    requires take { (opening : Opening) × CanTakeParts opening shares.old }
+    requires feed { CanFeed feeder.old }
+    requires allowed { feeder.old.refused ≡ false }
+    ensures take { OnOk result (TakeParts shares.old shares.new) }
+    ensures fed { HasFed feeder.old feeder.new }
+    ensures allowed { OnOk result (feeder.new.refused ≡ false) }
+{
+    for _ in rt.forever() {
+        if shares.iter().all(|share| share.is_done()) {
+            return Ok(());
+        }
+        side_by_side(rt, gate, round, shares, &mut [], feeder)?;
+    }
+    unreachable!()
 }
 
 /// The lanes take these packets while the feeder turns and the sessions read; then the lanes come
@@ -204,7 +227,8 @@ fn work<R: Threads + Wait + Sync, G: Gate + Sync>(
 {
     let mut shares = share_out(alloc, lanes, packets)?;
     let parts = shares.as_mut_slice();
-    side_by_side(rt, alloc, gate, round, parts, watches, feeder)?;
+    side_by_side(rt, gate, round, parts, watches, feeder)?;
+    go_again(rt, gate, round, parts, feeder)?;
     lanes_of(alloc, shares)
 }
 

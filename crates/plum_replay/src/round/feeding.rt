@@ -4,12 +4,11 @@ ghost use Rattle.std.specs.Prelude.{◌≡◌, false, OnOk};
 ghost use Rattle.plum_replay.specs.Pieces.{GatheredFew, CanFeed, HasFed};
 
 use crate::gate::Gate;
+use crate::round::signals::Signals;
 use plum_base::NoMemory;
 use plum_centre::{Fed, Feeder};
 use plum_packet::SEGMENT_BODIES;
 use std::sync::Wait;
-use std::sync::atomic::Ordering::SeqCst;
-use std::sync::atomic::{AtomicBool, AtomicU64};
 use std::thread;
 
 /// A turn, unless more is noted than a segment can give.
@@ -30,8 +29,7 @@ fn feed_all<R: Wait, G: Gate>(
     rt: &R,
     gate: &G,
     round: u32,
-    stop: &AtomicBool,
-    ended: &AtomicU64,
+    signals: &Signals,
     lanes: u64,
     feeder: &mut Feeder,
 ) -> Result<(), NoMemory>
@@ -40,10 +38,10 @@ fn feed_all<R: Wait, G: Gate>(
     ensures allowed { OnOk result (feeder.new.refused ≡ false) }
 {
     for _ in rt.forever() {
-        if stop.load(SeqCst) {
+        if signals.stops() {
             return Err(NoMemory);
         }
-        let all = ended.load(SeqCst) >= lanes;
+        let all = signals.ended() >= lanes;
         gate.turn(round);
         match next_turn(rt, feeder)? {
             Fed::One | Fed::Published => {}
@@ -54,13 +52,12 @@ fn feed_all<R: Wait, G: Gate>(
     unreachable!()
 }
 
-/// The same. Where it is refused memory, the round stops.
+/// The same, and it tells that it begins. Where it is refused memory, the round stops.
 pub fn feed<R: Wait, G: Gate>(
     rt: &R,
     gate: &G,
     round: u32,
-    stop: &AtomicBool,
-    ended: &AtomicU64,
+    signals: &Signals,
     lanes: u64,
     feeder: &mut Feeder,
 ) -> Result<(), NoMemory>
@@ -68,9 +65,10 @@ pub fn feed<R: Wait, G: Gate>(
     ensures fed { HasFed feeder.old feeder.new }
     ensures allowed { OnOk result (feeder.new.refused ≡ false) }
 {
-    let fed = feed_all(rt, gate, round, stop, ended, lanes, feeder);
+    signals.begin();
+    let fed = feed_all(rt, gate, round, signals, lanes, feeder);
     if fed.is_err() {
-        stop.store(true, SeqCst);
+        signals.stop();
     }
     fed
 }

@@ -6,10 +6,9 @@ ghost use Rattle.plum_replay.specs.Rounds.{HasLooked};
 
 use crate::gate::Gate;
 use crate::round::number_of;
+use crate::round::signals::Signals;
 use plum_snap::Session;
 use std::sync::Wait;
-use std::sync::atomic::AtomicBool;
-use std::sync::atomic::Ordering::SeqCst;
 use std::thread::{Threads, for_each_mut};
 
 /// A session in a round.
@@ -38,13 +37,13 @@ fn look<R: Wait, G: Gate>(
     gate: &G,
     round: u32,
     number: u16,
-    stop: &AtomicBool,
+    signals: &Signals,
     session: &mut Session,
 ) -> bool
     ensures { result ≡ true → HasLooked session.old session.new }
 {
     for _ in rt.forever() {
-        if stop.load(SeqCst) {
+        if signals.stops() {
             return false;
         }
         gate.reading(round, number);
@@ -60,7 +59,7 @@ pub fn look_all<R: Threads + Wait + Sync, G: Gate + Sync>(
     rt: &R,
     gate: &G,
     round: u32,
-    stop: &AtomicBool,
+    signals: &Signals,
     watches: &mut [Watch],
 )
     ensures { AllLook watches.old watches.new }
@@ -74,7 +73,7 @@ pub fn look_all<R: Threads + Wait + Sync, G: Gate + Sync>(
             &|a, watch|
                 ensures { Looks watch.entry.now watch.exit.now }
             {
-                watch.done = look(rt, gate, round, number_of(a), stop, &mut watch.session);
+                watch.done = look(rt, gate, round, number_of(a), signals, &mut watch.session);
             },
         );
     }

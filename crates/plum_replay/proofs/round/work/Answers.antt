@@ -1,9 +1,12 @@
-use Rattle.std.proofs.Common.{◌≡◌, true, length, map, sym, ap, ◌∙◌, subst}
+use Rattle.std.proofs.Common.{◌≡◌, List, length, map, sym, ap, ◌∙◌, subst}
 use Rattle.std.specs.Prelude.{All, IfOk, OnOk}
 use Rattle.std.proofs.lemmas.List.{with_items_is}
 use Rattle.std.specs.Vec.{with_items}
-use Rattle.plum_replay.specs.Pieces.{CanTakeParts, TakeParts, lane_in}
-use Rattle.plum_replay.proofs.Sharing.{CanTakeParts-shared, HaveShared-taken, HaveShared-back}
+use Rattle.plum_replay.specs.declared.round.taking.Share.{Share}
+use Rattle.plum_replay.specs.Pieces.{CanTakeParts, TakeParts, IsDone, lane_in}
+use Rattle.plum_replay.proofs.Feeding.{HasFed-then, CanFeed-again}
+use Rattle.plum_replay.proofs.Sharing.{CanTakeParts-shared, CanTakeParts-left, TakeParts-then}
+use Rattle.plum_replay.proofs.Sharing.{HaveShared-taken, HaveShared-back}
 use Rattle.plum_replay.proofs.round.work.Goals as goal
 
 pub side_by_side-requires-clause-take : goal.side_by_side-requires-clause-take
@@ -14,22 +17,47 @@ side_by_side-requires-clause-take g c κs within =
           (CanTakeParts-shared share.0 _ _ share.1 _ c.in_ok-shares.ensures),
     )
 
+-- each can take what is left
+pub go_again-requires-clause-take : goal.go_again-requires-clause-take
+go_again-requires-clause-take g c κs within =
+    let share = c.requires.share in (
+      share.0,
+      CanTakeParts-left share.0 _ _ c.side_by_side.auto.shares c.side_by_side.ensures.take
+          (subst (CanTakeParts share.0) (sym c.as_mut_slice-parts.ensures.value)
+          (CanTakeParts-shared share.0 _ _ share.1 _ c.in_ok-shares.ensures)),
+    )
+
+pub go_again-requires-clause-feed : goal.go_again-requires-clause-feed
+go_again-requires-clause-feed g c κs within =
+    CanFeed-again _ _ c.side_by_side.ensures.fed c.in_ok-side_by_side.ensures.allowed
+    c.requires.feed
+
+pub returns-in_err-go_again-clause-fed : goal.returns-in_err-go_again-clause-fed
+returns-in_err-go_again-clause-fed g c =
+    HasFed-then _ _ _ c.side_by_side.ensures.fed c.go_again.ensures.fed
+
+pub returns-clause-fed : goal.returns-clause-fed
+returns-clause-fed g c = HasFed-then _ _ _ c.side_by_side.ensures.fed c.go_again.ensures.fed
+
 pub returns-clause-share : goal.returns-clause-share
 returns-clause-share g c = λ opening can.
     let start = c.in_ok-shares.shares in
-    let after = c.side_by_side.new.shares in
+    let between = c.side_by_side.new.shares in
+    let after = c.go_again.new.shares in
     let slice : c.as_mut_slice-parts.result.now ≡ start.items =
     c.as_mut_slice-parts.ensures.value in
     let long : length after ≡ length start.items =
-    c.side_by_side.auto.shares ∙ ap length slice in
+    c.go_again.auto.shares ∙ c.side_by_side.auto.shares ∙ ap length slice in
     let now : (with_items start after).items ≡ after =
     with_items_is start after (long ∙ sym start.ok.0) in
+    let took : TakeParts c.as_mut_slice-parts.result.now after =
+    TakeParts-then _ between after c.side_by_side.auto.shares c.side_by_side.ensures.take
+    c.in_ok-go_again.ensures.take in
     HaveShared-back c.lanes_of.result (λ lanes. lanes.items) opening c.args.packets.items
     c.args.lanes.items after
     (subst (λ ss. IfOk c.lanes_of.result (λ lanes. lanes.items ≡ map lane_in ss)) now
     c.lanes_of.ensures.lanes)
-    (subst (λ ss. OnOk c.lanes_of.result (All (λ share. share.done ≡ true) ss)) now
+    (subst (λ (ss : List Share). OnOk c.lanes_of.result (All IsDone ss)) now
     c.lanes_of.ensures.done)
     (HaveShared-taken opening c.args.packets.items c.args.lanes.items can start.items
-    c.in_ok-shares.ensures after long
-    (subst (λ ss. TakeParts ss after) slice c.side_by_side.ensures.take))
+    c.in_ok-shares.ensures after long (subst (λ ss. TakeParts ss after) slice took))

@@ -10,8 +10,8 @@ pub returns-in-Sent-clause-taken : goal.returns-in-Sent-clause-taken
 returns-in-Sent-clause-taken g c = λ opening number taken has.
     c.offer.ensures.taken opening number taken (c.loop.invariant.taken opening number taken has)
 
-pub returns-then-load-clause-taken : goal.returns-then-load-clause-taken
-returns-then-load-clause-taken g c = λ opening number taken has.
+pub returns-then-stops-clause-taken : goal.returns-then-stops-clause-taken
+returns-then-stops-clause-taken g c = λ opening number taken has.
     c.offer.ensures.taken opening number taken (c.loop.invariant.taken opening number taken has)
 
 pub loop-preserved : goal.loop-preserved
