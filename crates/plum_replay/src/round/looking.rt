@@ -9,6 +9,7 @@ use crate::round::number_of;
 use crate::round::signals::Signals;
 use plum_snap::Session;
 use std::sync::Wait;
+use std::thread;
 use std::thread::{Threads, for_each_mut};
 
 /// A session in a round.
@@ -50,6 +51,7 @@ fn look<R: Wait, G: Gate>(
         if read(session) {
             return true;
         }
+        thread::yield_now();
     }
     unreachable!()
 }
