@@ -11,9 +11,10 @@ use Rattle.plum_base.specs.Sites.{SitesView}
 use Rattle.plum_packet.specs.Segments.{Decoded, packets_in}
 use Rattle.plum_core.specs.Transcript.{Transcript, IsLegal, IsLegalOver}
 use Rattle.plum_text.specs.Texts.{Section, journal_text, out_text}
-use Rattle.plum_replay.specs.Begun.{AreAll, AreInOrder, AreTaken, IsBegun}
+use Rattle.plum_replay.specs.Begun.{AreAll, AreTaken, IsBegun}
 use Rattle.plum_replay.specs.Parts.{sections_text}
 use Rattle.plum_replay.specs.Sections.{AreSections}
+use Rattle.plum_replay.proofs.InOrder.{AreWritten, AreInOrder-written}
 
 -- Some bytes of those that follow are written.
 pub partly : (n : ℕ) (front more whole : List ℕ) → front ++ more ≡ whole
@@ -41,10 +42,10 @@ pub begun_within : (setup : Setup) (sites : SitesView) (capture : List ℕ) (lef
     → AreSections setup.rules done t.readings sections
     → IsPrefix journal (journal_text sites.stations t.parts)
     → IsPrefix output (sections_text sites.targets sections)
-    → AreInOrder sites (length (done ++ tip)) t.parts sections journal output
+    → AreWritten sites t.parts sections (length (done ++ tip)) journal output
     → IsBegun setup sites capture left journal output
 begun_within setup sites capture left done tip others one taken t sections journal output legal
-    sections_are journal_begun output_begun in_order =
+    sections_are journal_begun output_begun written =
     let front = done ++ tip in
     let read : take (length done) (front ++ others) ≡ done =
     ap (take (length done)) (append_assoc done tip others)
@@ -65,7 +66,8 @@ begun_within setup sites capture left done tip others one taken t sections journ
       output_is = inl (one, refl);
       journal_begun = journal_begun;
       output_begun = output_begun;
-      in_order = in_order;
+      in_order =
+          AreInOrder-written sites t.parts sections (length front) journal output written;
     }
 
 -- These are all segments, and all marks have readings.
@@ -99,5 +101,7 @@ begun_whole setup sites capture left segments tail all t sections output legal s
       output_is = inr (tail, all, refl, refl, refl);
       journal_begun = prefix_refl (journal_text sites.stations t.parts);
       output_begun = output_begun;
-      in_order = inl refl;
+      in_order =
+          AreInOrder-written sites t.parts sections n (journal_text sites.stations t.parts) output
+          (inl refl);
     }

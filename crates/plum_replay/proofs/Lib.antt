@@ -19,6 +19,7 @@ pub mod Rounding
 pub mod Standing
 pub mod OneMore
 pub mod Adding
+pub mod InOrder
 pub mod Beginnings
 pub mod Writings
 pub mod Endings

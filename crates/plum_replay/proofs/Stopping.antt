@@ -19,7 +19,8 @@ use Rattle.plum_centre.specs.Centre.{CentreId}
 use Rattle.plum_text.specs.Texts.{Section, journal_text, out_text}
 use Rattle.plum_replay.specs.declared.progress.Counted.{Counted}
 use Rattle.plum_replay.specs.declared.progress.Progress.{Progress}
-use Rattle.plum_replay.specs.Begun.{AreAll, AreInOrder, AreTaken, IsBegun, AppendsBegun}
+use Rattle.plum_replay.specs.Begun.{AreAll, AreTaken, IsBegun, AppendsBegun}
+use Rattle.plum_replay.proofs.InOrder.{AreWritten}
 use Rattle.plum_replay.specs.Parts.{sections_text}
 use Rattle.plum_replay.specs.Progress.{ReplaysFirst, ReplaysOneMore, EndsReplay}
 use Rattle.plum_replay.specs.Written.{HasWritten}
@@ -116,17 +117,17 @@ module _ (setup : Setup) (sites : SitesView) (capture : List ℕ) (left : Option
       begun_more : (journal_now output_now : List ℕ)
           → IsPrefix journal_now (journal_text sites.stations parts_more)
           → IsPrefix output_now (sections_text sites.targets sections_more)
-          → AreInOrder sites (length (done_more ++ decoded ∷ [])) parts_more sections_more
+          → AreWritten sites parts_more sections_more (length (done_more ++ decoded ∷ []))
           journal_now output_now
           → IsBegun setup sites capture left journal_now output_now
-      begun_more journal_now output_now journal_begun output_begun in_order =
+      begun_more journal_now output_now journal_begun output_begun written =
           begun_within setup sites capture left done_more (decoded ∷ []) []
           (omega (arith, length_push done_more decoded))
           (subst (AreTaken sites.stations capture left)
           (sym (append-nil (done_more ++ decoded ∷ []))) taken)
           (with_readings (with_part was.transcript more.part) more.readings) sections_more
           journal_now output_now more.replayed.worked.legal more.replayed.told.sections_are
-          journal_begun output_begun in_order
+          journal_begun output_begun written
 
       -- within the journal lines of the segment
       pub stops_in_lines : (now : HostView)

@@ -1,5 +1,6 @@
 -- What stands in the outputs of a replay that stopped.
-use Rattle.std.specs.Prelude.{◌≡◌, ◌-◌, ◌⊎◌, ◌≤◌, ℕ, List, [], ◌++◌, length, map, take, Option, Some}
+use Rattle.std.specs.Prelude.{◌≡◌, ◌+◌, ◌-◌, ◌⊎◌, ◌<◌, ◌≤◌, ℕ, List, [], ◌++◌, length, map, take}
+use Rattle.std.specs.Prelude.{Option, Some}
 use Rattle.std.specs.List.{AllZip}
 use mathlib.Core.List.{IsPrefix}
 use Rattle.plum_base.specs.declared.entry.Entry.{Entry}
@@ -51,15 +52,13 @@ IsOutputSoFar sites capture left segments k read sections output =
     ⊎ ((tail : ℕ) × AreAll sites.stations capture left segments tail × (k ≡ length segments)
     × (read ≡ k) × (output ≡ out_text sites.targets sections tail))
 
--- Of a journal up to the k-th segment, and of an output, this much is written in order: a section
--- is begun where the journal lines of the segment after its own stand whole; that of the last mark,
--- where all do. So either the whole journal stands, or all but lines of the last segment, and of
--- the output no more than the sections that do not wait for those.
-abbrev pub AreInOrder : SitesView → ℕ → List (List Entry) → List Section → List ℕ → List ℕ → Type 0
-AreInOrder sites k parts sections journal output =
-    (journal ≡ journal_text sites.stations parts)
-    ⊎ (IsPrefix (journal_text sites.stations (take (k - 1) parts)) journal
-    × IsPrefix output (sections_text sites.targets (take (k - 2) sections)))
+-- Of a journal and of an output this much is written in order: where the output has more than the
+-- sections of the first m marks, so that the next one is begun, the journal lines of the first
+-- m + 2 segments stand whole, or those of all, where there are no more.
+abbrev pub AreInOrder : SitesView → List (List Entry) → List Section → List ℕ → List ℕ → Type 0
+AreInOrder sites parts sections journal output =
+    (m : ℕ) → length (sections_text sites.targets (take m sections)) < length output
+    → IsPrefix (journal_text sites.stations (take (m + 2) parts)) journal
 
 -- The journal and the output begin the two texts of one transcript, and are written in order. It is
 -- legal up to the k-th segment, and the segments up to there lie in what was taken of the capture.
@@ -81,7 +80,7 @@ pub record IsBegun (setup : Setup) (sites : SitesView) (capture : List ℕ)
   pub output_is : IsOutputSoFar sites capture left segments k read sections whole_output
   pub journal_begun : IsPrefix journal (journal_text sites.stations transcript.parts)
   pub output_begun : IsPrefix output whole_output
-  pub in_order : AreInOrder sites k transcript.parts sections journal output
+  pub in_order : AreInOrder sites transcript.parts sections journal output
 
 -- The beginnings of two such texts are appended.
 abbrev pub AppendsBegun : Setup → SitesView → List ℕ → Option (List ℕ) → HostView → HostView
