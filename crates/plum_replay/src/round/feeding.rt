@@ -9,7 +9,6 @@ use plum_base::NoMemory;
 use plum_centre::{Fed, Feeder};
 use plum_packet::SEGMENT_BODIES;
 use std::sync::Wait;
-use std::thread;
 
 /// A turn, unless more is noted than a segment can give.
 fn next_turn<R: Wait>(rt: &R, feeder: &mut Feeder) -> Result<Fed, NoMemory>
@@ -41,12 +40,12 @@ fn feed_all<R: Wait, G: Gate>(
         if signals.stops() {
             return Err(NoMemory);
         }
-        let all = signals.ended() >= lanes;
+        let ended = signals.ended();
         gate.turn(round);
         match next_turn(rt, feeder)? {
             Fed::One | Fed::Published => {}
-            Fed::Empty if all => return Ok(()),
-            Fed::Empty => thread::yield_now(),
+            Fed::Empty if ended >= lanes => return Ok(()),
+            Fed::Empty => signals.rest(rt, ended),
         }
     }
     unreachable!()

@@ -1,7 +1,13 @@
 //! What the threads of a round tell one another.
 
+use std::sync::Wait;
 use std::sync::atomic::Ordering::SeqCst;
 use std::sync::atomic::{AtomicBool, AtomicU64};
+use std::time::Duration;
+
+/// For how many microseconds the feeder rests at most at an empty queue. It takes the lanes longer
+/// to fill a queue of some hundred places.
+const REST: u64 = 50;
 
 /// Words without a rule: they decide when a loop ends, and no contract speaks of them.
 #[derive(Drop)]
@@ -44,10 +50,24 @@ impl Signals {
     /// A lane has ended.
     pub fn end_lane(&self) {
         self.ended.fetch_add(1, SeqCst);
+        self.wake_feeder();
     }
 
     /// How many lanes have ended.
     pub fn ended(&self) -> u64 {
         self.ended.load(SeqCst)
+    }
+
+    /// The feeder rests, unless more lanes have ended than it saw: a turn at an empty queue takes a
+    /// processor from the lanes.
+    pub fn rest<R: Wait>(&self, rt: &R, seen: u64) {
+        let seen = u32::try_from(seen).unwrap_or(u32::MAX);
+        self.ended
+            .park_timeout(rt, seen, Duration::from_micros(REST));
+    }
+
+    /// The feeder rests no longer.
+    pub fn wake_feeder(&self) {
+        self.ended.wake_one();
     }
 }

@@ -47,8 +47,9 @@ fn send<R: Wait>(rt: &R, lane: &mut Lane, signals: &Signals) -> bool
     for _ in rt.forever() {
         match lane.offer(rt) {
             Offered::Sent => return true,
-            Offered::Busy => thread::yield_now(),
+            Offered::Busy => signals.wake_feeder(),
         }
+        thread::yield_now();
         if signals.stops() || !signals.has_begun() {
             return false;
         }
