@@ -1,21 +1,27 @@
 -- What the grammar accepts, `clap` reads.
-use Rattle.std.proofs.Common.{◌≡◌, ℕ, ◌&&◌, false, true, Bool, List, [], ◌∷◌, Option, None}
-use Rattle.std.proofs.Common.{Result, Ok, Err, IfErr, is_some, Some, codes, refl, ap, ◌∙◌, map, subst}
-use Rattle.std.specs.Prelude.{if◌then◌else◌, drop}
+use Rattle.std.proofs.Common.{◌≡◌, ℕ, ◌&&◌, ◌==◌, false, true, Bool, List, [], ◌∷◌, Option, None}
+use Rattle.std.proofs.Common.{Result, Ok, Err, IfErr, is_some, Some, codes, refl, ap, ◌∙◌, map}
+use Rattle.std.proofs.Common.{arith, subst, zero, suc, ◌+◌, ◌<◌, ◌≤◌}
+use Rattle.std.specs.Prelude.{if◌then◌else◌, nat_lt, drop}
+use Rattle.std.proofs.lemmas.Bool.{ne_eqb}
 use Rattle.std.specs.Option.{option_map}
 use Rattle.std.specs.Str.{bytes_eq}
+use Rattle.std.specs.Str.Parse.{digits_value}
+use borrow.Author.Tests.{ltb-true}
 use Rattle.clap.specs.Simple.{App, Shape, built, matches_of}
 use Rattle.clap.specs.Takes.{takes}
 use Rattle.clap.specs.Walk.{Held, Row, Text, finished, first_of, nothing_held}
 use Rattle.clap.proofs.TakesLemmas.{leaf_takes}
-use Rattle.plum.specs.Job.{Job, replay, station, check, LAST_CODE, is_path}
-use Rattle.plum.specs.Job.{number_up_to, job_of, replay_of, station_of, check_of}
+use Rattle.plum.specs.DrillFiles.{MOST_DRILL_STATIONS, MOST_DRILL_SECONDS}
+use Rattle.plum.specs.Job.{Job, replay, station, check, drill, LAST_CODE, LAST_SEED, is_path}
+use Rattle.plum.specs.Job.{is_number, number_up_to, count_up_to, not_zero, job_of, drill_with}
+use Rattle.plum.specs.Job.{replay_of, station_of, check_of, drill_of, HasSize}
 use Rattle.plum.specs.declared.grammar.CommandName.{CommandName}
 use Rattle.plum.specs.declared.grammar.CommandName.TheVariants as names
 use Rattle.plum.specs.Asked.{name_of}
 use Rattle.plum.specs.Words.{IsRead, ReadsTheGrammar, app_for, ids_of}
 use Rattle.plum.proofs.Clapping.{ArePlain, Fit, level, walk_ends}
-use Rattle.plum.proofs.Numbers.{number_given, number_is_plain, three_true}
+use Rattle.plum.proofs.Numbers.{number_given, number_is_plain, three_true, two_true}
 
 -- the words of `replay`
 module _ (command a b c d e : Text) (plain : ArePlain (a ∷ b ∷ c ∷ d ∷ e ∷ [])) where
@@ -88,6 +94,30 @@ module _ (command a b c d : Text) (plain : ArePlain (a ∷ b ∷ c ∷ d ∷ [])
   check_found = ap (λ (h : Held). map (λ id. first_of id (finished check_top.rules h))
       (ids_of (check a b c d)))
       (walk_ends check_top 1 nothing_held check_words plain check_fit)
+
+-- the words of `drill`
+module _ (command a b c : Text) (plain : ArePlain (a ∷ b ∷ c ∷ [])) where
+  abbrev drill_words : List Text
+  drill_words = a ∷ b ∷ c ∷ []
+
+  abbrev drill_app : App
+  drill_app = app_for (drill 0 0 0)
+
+  abbrev drill_top : Shape
+  drill_top = (built drill_app).top
+
+  drill_fit : Fit drill_top 1 nothing_held drill_words
+  drill_fit = (refl, refl, (refl, refl, (refl, refl, tt)))
+
+  drill_taken : takes drill_app (command ∷ drill_words) ≡ true
+  drill_taken = leaf_takes (built drill_app) nothing_held drill_words refl
+      (level drill_top drill_words plain drill_fit refl)
+
+  drill_found : map (λ id. first_of id (matches_of drill_app (command ∷ drill_words)))
+      (ids_of (drill 0 0 0)) ≡ map (λ word. Some word) drill_words
+  drill_found = ap (λ (h : Held). map (λ id. first_of id (finished drill_top.rules h))
+      (ids_of (drill 0 0 0)))
+      (walk_ends drill_top 1 nothing_held drill_words plain drill_fit)
 
 five_true : (a b c d e : Bool) → (a && b && c && d && e) ≡ true
     → (a ≡ true) × (b ≡ true) × (c ≡ true) × (d ≡ true) × (e ≡ true)
@@ -182,18 +212,58 @@ by_check command (a ∷ b ∷ c ∷ d ∷ []) job h =
     go false all h = cc
 by_check command words job h = cc
 
+count_given : (most : ℕ) (word : List ℕ) (n : ℕ) → count_up_to most word ≡ Some n
+    → is_number word ≡ true
+count_given most word n h = go (number_up_to most word) refl h
+  where
+    go : (o : Option ℕ) → number_up_to most word ≡ o → not_zero o ≡ Some n
+        → is_number word ≡ true
+    go None e h = cc
+    go (Some m) e h = number_given most word m e
+
+pub by_drill : (command : Text) (words : List Text) (job : Job) → drill_of words ≡ Some job
+    → IsRead job (command ∷ words)
+by_drill command (a ∷ b ∷ c ∷ []) job h =
+    go (number_up_to LAST_SEED a) refl (count_up_to MOST_DRILL_STATIONS b) refl
+    (count_up_to MOST_DRILL_SECONDS c) refl h
+  where
+    go : (x : Option ℕ) → number_up_to LAST_SEED a ≡ x
+        → (y : Option ℕ) → count_up_to MOST_DRILL_STATIONS b ≡ y
+        → (z : Option ℕ) → count_up_to MOST_DRILL_SECONDS c ≡ z
+        → drill_with x y z ≡ Some job → IsRead job (command ∷ a ∷ b ∷ c ∷ [])
+    go (Some seed) ex (Some stations) ey (Some seconds) ez h =
+        let plain : ArePlain (a ∷ b ∷ c ∷ []) = (
+          number_is_plain a (number_given LAST_SEED a seed ex),
+          (
+            number_is_plain b (count_given MOST_DRILL_STATIONS b stations ey),
+            (number_is_plain c (count_given MOST_DRILL_SECONDS c seconds ez), tt),
+          ),
+        ) in
+        let same : drill seed stations seconds ≡ job = cc in
+        subst (λ (j : Job). IsRead j (command ∷ a ∷ b ∷ c ∷ [])) same (record {
+          taken = drill_taken command a b c plain;
+          found = drill_found command a b c plain;
+          spelled = (a, b, c, ex, ey, ez, refl);
+        })
+    go None ex y ey z ez h = cc
+    go (Some seed) ex None ey z ez h = cc
+    go (Some seed) ex (Some stations) ey None ez h = cc
+by_drill command words job h = cc
+
 pub grammar_is_read : ReadsTheGrammar
 grammar_is_read [] job h = cc
 grammar_is_read (command ∷ words) job h =
     go (bytes_eq command (codes "replay")) (bytes_eq command (codes "station"))
-    (bytes_eq command (codes "check")) h
+    (bytes_eq command (codes "check")) (bytes_eq command (codes "drill")) h
   where
-    go : (r s c : Bool) → (if r then replay_of words else if s then station_of words
-        else if c then check_of words else None) ≡ Some job → IsRead job (command ∷ words)
-    go true s c h = by_replay command words job h
-    go false true c h = by_station command words job h
-    go false false true h = by_check command words job h
-    go false false false h = cc
+    go : (r s c d : Bool) → (if r then replay_of words else if s then station_of words
+        else if c then check_of words else if d then drill_of words else None) ≡ Some job
+        → IsRead job (command ∷ words)
+    go true s c d h = by_replay command words job h
+    go false true c d h = by_station command words job h
+    go false false true d h = by_check command words job h
+    go false false false true h = by_drill command words job h
+    go false false false false h = cc
 
 -- the words of a command, where they ask for it
 pub record AsksReplay (words : List Text) : Type 0 where
@@ -221,6 +291,7 @@ asks_replay words h = go (job_of words) refl h
     }
     go (Some (station a b c n)) e h = cc
     go (Some (check a b c d)) e h = cc
+    go (Some (drill a b c)) e h = cc
 
 pub record AsksStation (words : List Text) : Type 0 where
   pub setup : Text
@@ -240,6 +311,7 @@ asks_station words h = go (job_of words) refl h
     go (Some (station a b c n)) e h =
         record { setup = a; stations = b; capture = c; code = n; asked = e }
     go (Some (check a b c d)) e h = cc
+    go (Some (drill a b c)) e h = cc
 
 pub record AsksCheck (words : List Text) : Type 0 where
   pub setup : Text
@@ -259,6 +331,26 @@ asks_check words h = go (job_of words) refl h
     go (Some (station a b c n)) e h = cc
     go (Some (check a b c d)) e h =
         record { setup = a; stations = b; targets = c; capture = d; asked = e }
+    go (Some (drill a b c)) e h = cc
+
+pub record AsksDrill (words : List Text) : Type 0 where
+  pub seed : ℕ
+  pub stations : ℕ
+  pub seconds : ℕ
+  pub asked : job_of words ≡ Some (drill seed stations seconds)
+
+pub asks_drill : (words : List Text) → option_map name_of (job_of words) ≡ Some names.Drill
+    → AsksDrill words
+asks_drill words h = go (job_of words) refl h
+  where
+    go : (o : Option Job) → job_of words ≡ o → option_map name_of o ≡ Some names.Drill
+        → AsksDrill words
+    go None e h = cc
+    go (Some (replay a b c d f)) e h = cc
+    go (Some (station a b c n)) e h = cc
+    go (Some (check a b c d)) e h = cc
+    go (Some (drill a b c)) e h =
+        record { seed = a; stations = b; seconds = c; asked = e }
 
 -- each word under its name, in what `clap` found
 pub values_are : (job : Job) (words : List Text) (rows : List Row) → IsRead job words
@@ -323,6 +415,21 @@ module _ (words : List Text) (rows : List Row) where
       ∙ ap (λ (ws : List Text). map (λ w. Some w) ws) read.spelled in
       (cc, cc, cc, cc)
 
+  pub drill_values : (asks : AsksDrill words)
+      → (read : IsRead (drill asks.seed asks.stations asks.seconds) words)
+      → rows ≡ matches_of (app_for (drill asks.seed asks.stations asks.seconds)) words
+      → (first_of (codes "SEED") rows ≡ Some read.spelled.0)
+      × (first_of (codes "STATIONS") rows ≡ Some read.spelled.1)
+      × (first_of (codes "SECONDS") rows ≡ Some read.spelled.2)
+  drill_values asks read same =
+      let job : Job = drill asks.seed asks.stations asks.seconds in
+      let all : first_of (codes "SEED") rows ∷ first_of (codes "STATIONS") rows
+      ∷ first_of (codes "SECONDS") rows ∷ []
+      ≡ Some read.spelled.0 ∷ Some read.spelled.1 ∷ Some read.spelled.2 ∷ [] =
+      values_are job words rows read same
+      ∙ ap (λ (ws : List Text). map (λ w. Some w) ws) read.spelled.6 in
+      (cc, cc, cc)
+
 -- words that name a command ask for a job
 pub asked_some : (o : Option Job) (name : CommandName) → option_map name_of o ≡ Some name
     → is_some o ≡ true
@@ -332,3 +439,32 @@ asked_some (Some job) name h = refl
 pub any_err : {T E : Type 0} (P : Type 0) (r : Result T E) → P → IfErr r (λ _. P)
 any_err P (Ok x) p = tt
 any_err P (Err e) p = p
+
+-- a number from 1 to this
+counted_up_to : (most n : ℕ) (value : ℕ) (b : Bool) → (b ≡ true → value < most + 1)
+    → not_zero (if b then Some value else None) ≡ Some n → (1 ≤ n) × (n ≤ most)
+counted_up_to most n value false below h = cc
+counted_up_to most n zero true below h = cc
+counted_up_to most n (suc k) true below h =
+    let apart : (suc k == 0) ≡ false = ne_eqb (suc k) 0 (λ e. omega arith) in
+    let same : suc k ≡ n = cc in
+    let less = below refl in
+    (omega arith, omega arith)
+
+count_within : (most : ℕ) (word : List ℕ) (n : ℕ) → count_up_to most word ≡ Some n
+    → (1 ≤ n) × (n ≤ most)
+count_within most word n h =
+    counted_up_to most n (digits_value 10 word)
+    (is_number word && nat_lt (digits_value 10 word) (most + 1))
+    (λ both. ltb-true (digits_value 10 word) (most + 1) (two_true (is_number word) _ both).1) h
+
+-- A drill that words ask for has a size.
+pub has_size : (words : List Text) (job : Job) → job_of words ≡ Some job → HasSize job
+has_size words (replay a b c d e) h = tt
+has_size words (station a b c n) h = tt
+has_size words (check a b c d) h = tt
+has_size words (drill seed stations seconds) h =
+    let spelled = (grammar_is_read words (drill seed stations seconds) h).spelled in
+    let some = count_within MOST_DRILL_STATIONS spelled.1 stations spelled.4 in
+    let long = count_within MOST_DRILL_SECONDS spelled.2 seconds spelled.5 in
+    (some.0, some.1, long.0, long.1)

@@ -39,7 +39,7 @@ use Rattle.plum_text.specs.Lines.{plain_line, out_line}
 use Rattle.plum_text.specs.Texts.{totals_line}
 use Rattle.plum.specs.declared.teller.Teller.{Teller}
 use Rattle.plum.specs.declared.teller.Teller.TheVariants.{Watching, Counting}
-use Rattle.plum.specs.Job.{Job, replay, station, check}
+use Rattle.plum.specs.Job.{Job, replay, station, check, drill}
 use Rattle.plum.specs.Plain.{AppendsPlainBegun, AreStationLines, BeginsPlainText, IsHistoryOf}
 use Rattle.plum.specs.Plain.{IsTextOver, check_lines, counts_line, packets_of}
 use Rattle.plum.specs.Plain.{refused_line, totals_in, value_line}
@@ -160,6 +160,10 @@ module _ (laws : TextLaws) (stations : List StationSite) (distinct : AreCodesDis
         has whole is = absurd of
     text_begins (Counting tally) (station s st c code) setup capture given text reader left of told
         has whole is = absurd of
+    text_begins (Watching watch) (drill n m k) setup capture given text reader left of told has
+        whole is = absurd of
+    text_begins (Counting tally) (drill n m k) setup capture given text reader left of told has
+        whole is = absurd of
     text_begins (Watching watch) (station s st c code) setup capture given text reader left of told
         has whole is =
         let bodies = bodies_of is.segments in
@@ -227,6 +231,7 @@ module _ (laws : TextLaws) (stations : List StationSite) (distinct : AreCodesDis
         → BeginsPlainText job setup stations capture text
     whole_text_begins (replay s st t c j) setup capture segments tail text of over whole is =
         absurd over
+    whole_text_begins (drill n m k) setup capture segments tail text of over whole is = absurd over
     whole_text_begins (station s st c code) setup capture segments tail text of over whole is =
         let same = laws.decoded stations capture is.segments segments is.tail tail distinct
         is.capture_is of in

@@ -12,25 +12,46 @@ use Rattle.plum.specs.declared.tally.Tally.{Tally}
 use Rattle.plum.specs.declared.teller.Teller.TheVariants.{Watching, Counting}
 use Rattle.plum.specs.declared.watch.Watch.{Watch}
 use Rattle.plum.specs.Ended.{HasEnded}
-use Rattle.plum.specs.Files.{uses_targets}
-use Rattle.plum.specs.Job.{Job, replay, station, check, plain, IsReplay, IsStation, IsCheck}
-use Rattle.plum.specs.Job.{IsPlain}
+use Rattle.plum.specs.Files.{uses_files, uses_targets}
+use Rattle.plum.specs.Job.{Job, replay, station, check, drill, plain, IsReplay, IsStation}
+use Rattle.plum.specs.Job.{IsCheck, IsPlain}
 use Rattle.plum.specs.Telling.{IsTellerOf}
 
 pub replay_uses_targets : (job : Job) → IsReplay job → uses_targets job ≡ true
 replay_uses_targets (replay s st t c j) is = refl
 replay_uses_targets (station s st c n) is = absurd is
 replay_uses_targets (check s st t c) is = absurd is
+replay_uses_targets (drill n m k) is = absurd is
+
+pub replay_uses_files : (job : Job) → IsReplay job → uses_files job ≡ true
+replay_uses_files (replay s st t c j) is = refl
+replay_uses_files (station s st c n) is = absurd is
+replay_uses_files (check s st t c) is = absurd is
+replay_uses_files (drill n m k) is = absurd is
 
 pub station_uses_none : (code : ℕ) (job : Job) → IsStation code job → uses_targets job ≡ false
 station_uses_none code (replay s st t c j) is = absurd is
 station_uses_none code (station s st c n) is = refl
 station_uses_none code (check s st t c) is = absurd is
+station_uses_none code (drill n m k) is = absurd is
+
+pub station_uses_files : (code : ℕ) (job : Job) → IsStation code job → uses_files job ≡ true
+station_uses_files code (replay s st t c j) is = absurd is
+station_uses_files code (station s st c n) is = refl
+station_uses_files code (check s st t c) is = absurd is
+station_uses_files code (drill n m k) is = absurd is
 
 pub check_uses_targets : (job : Job) → IsCheck job → uses_targets job ≡ true
 check_uses_targets (replay s st t c j) is = absurd is
 check_uses_targets (station s st c n) is = absurd is
 check_uses_targets (check s st t c) is = refl
+check_uses_targets (drill n m k) is = absurd is
+
+pub check_uses_files : (job : Job) → IsCheck job → uses_files job ≡ true
+check_uses_files (replay s st t c j) is = absurd is
+check_uses_files (station s st c n) is = absurd is
+check_uses_files (check s st t c) is = refl
+check_uses_files (drill n m k) is = absurd is
 
 -- the station that is found at a code, or none
 pub found_at : (stations : List StationSite) (code : ℕ) (found : Option StationNo)
@@ -47,6 +68,7 @@ watches_for watch code (replay s st t c j) stations is found = absurd is
 watches_for watch code (station s st c n) stations is found =
     subst (λ k. IsFoundAt stations k watch.number) (sym is) found
 watches_for watch code (check s st t c) stations is found = absurd is
+watches_for watch code (drill n m k) stations is found = absurd is
 
 -- A tally is at work for a check.
 pub counts_for : (tally : Tally) (job : Job) (stations : List StationSite) → IsCheck job
@@ -54,6 +76,7 @@ pub counts_for : (tally : Tally) (job : Job) (stations : List StationSite) → I
 counts_for tally (replay s st t c j) stations is = absurd is
 counts_for tally (station s st c n) stations is = absurd is
 counts_for tally (check s st t c) stations is = tt
+counts_for tally (drill n m k) stations is = absurd is
 
 -- How the work ended, as it was done or was not.
 pub ends_with : {T : Type 0} (job : Job) (work : Result T Status) (status : Status)
@@ -71,6 +94,7 @@ plainly None = tt
 plainly (Some (replay s st t c j)) = tt
 plainly (Some (station s st c n)) = tt
 plainly (Some (check s st t c)) = tt
+plainly (Some (drill n m k)) = tt
 
 pub asked_plainly : (asked : Option Job) (job : Job) → option_and_then plain asked ≡ Some job
     → IsPlain job

@@ -24,10 +24,10 @@ use Rattle.plum.specs.declared.status.SitesFile.TheVariants as sites
 use Rattle.plum.specs.declared.status.LimitOf.TheVariants as limits
 use Rattle.plum.specs.declared.status.Status.{Status}
 use Rattle.plum.specs.declared.status.Status.TheVariants as ends
-use Rattle.plum.specs.Files.{turn_of, IsFile, uses}
+use Rattle.plum.specs.Files.{turn_of, IsFile, uses, uses_files}
 use Rattle.plum.specs.Causes.{FailsAt, IsCause, ComesTo, LeavesBehind, LeavesUnused}
-use Rattle.plum.specs.Causes.{EndsAtAnInput}
-use Rattle.plum.specs.Job.{Job, replay, station, check, IsReplay}
+use Rattle.plum.specs.Causes.{EndsAtAnInput, HasCause}
+use Rattle.plum.specs.Job.{Job, replay, station, check, drill, IsReplay}
 use Rattle.plum.specs.Replayed.{AppendsNothing, StopsInReplay}
 use Rattle.plum.specs.Status.{CountsEnd, status_of}
 use Rattle.plum.specs.Ended.{AppendsEnd, HasEnded, IsAtTurn, AreRead, BreaksOff}
@@ -109,6 +109,8 @@ broke_off_quietly (station setup stations capture code) before after nothing lef
     record { journal = left; output = inl nothing.output }
 broke_off_quietly (check setup stations targets capture) before after nothing left =
     record { journal = left; output = inl nothing.output }
+broke_off_quietly (drill seed stations seconds) before after nothing left =
+    record { journal = left; output = inl nothing.output }
 
 -- Where memory is short before anything is read, nothing is appended.
 pub unread_appends : (asked : Option Job) (host : HostView)
@@ -137,44 +139,52 @@ appends_at_a_file job (ends.Limit limits.Records) file before after turn cause n
 appends_at_a_file job ends.NoMemory file before after turn cause nothing left =
     broke_off_quietly job before after nothing left
 
+-- A command that reads files ends at an input.
+pub caused_at : (job : Job) (status : Status) (before after : HostView) → uses_files job ≡ true
+    → EndsAtAnInput job status before after → HasCause job status before after
+caused_at (replay setup stations targets capture journal) status before after files at = at
+caused_at (station setup stations capture code) status before after files at = at
+caused_at (check setup stations targets capture) status before after files at = at
+caused_at (drill seed stations seconds) status before after files at = absurd cc
+
 -- the work ends at a file
 pub ends_at_a_file : (job : Job) (status : Status) (file : In) (before now after : HostView)
-    → IsFile file → uses job file ≡ true → ComesTo job file before → IsAtTurn file before now
+    → IsFile file → uses_files job ≡ true → uses job file ≡ true → ComesTo job file before → IsAtTurn file before now
     → OnlyReads file now after → IsCause status file now after → CountsEnd status now after
     → HasEnded job status before after
-ends_at_a_file job status file before now after turn used comes so_far frame cause counts =
+ends_at_a_file job status file before now after turn files used comes so_far frame cause counts =
     let here = cause_from status file before now after (so_far.inputs file (omega arith)) cause in
     let behind = leaves_behind file before now after so_far frame in
     let outputs : (to : To) → after.held to ≡ before.held to =
     λ to. frame.outputs to ∙ so_far.outputs to in
     let nothing = nothing_appended before after outputs in
     record {
-      at_an_input = record {
+      cause = caused_at job status before after files (record {
         file = file;
         used = used;
         before_it = comes;
         behind_it = behind;
         cause = here;
-      };
+      });
       counts = counts_from status before now after so_far.counts counts;
       appends = appends_at_a_file job status file before after turn here nothing
           (outputs Journal);
-      unused = leaves_unused job file before after used turn behind;
+      unused = leaves_unused job file before after files used turn behind;
     }
 
 -- memory is short behind the files
-pub ends_behind_the_files : (job : Job) (before now : HostView) → ComesTo job inputs.Capture before
-    → IsAtTurn inputs.Capture before now → LeavesUnused job before now
+pub ends_behind_the_files : (job : Job) (before now : HostView) → uses_files job ≡ true
+    → ComesTo job inputs.Capture before → IsAtTurn inputs.Capture before now → LeavesUnused job before now
     → HasEnded job ends.NoMemory before now
-ends_behind_the_files job before now comes so_far unused =
+ends_behind_the_files job before now files comes so_far unused =
     record {
-      at_an_input = record {
+      cause = caused_at job ends.NoMemory before now files (record {
         file = inputs.Capture;
-        used = refl;
+        used = files;
         before_it = comes;
         behind_it = λ later turn. so_far.inputs later (omega arith);
         cause = tt;
-      };
+      });
       counts = so_far.counts;
       appends = broke_off_quietly job before now (nothing_appended before now so_far.outputs)
           (so_far.outputs Journal);
@@ -268,7 +278,7 @@ pub at_the_capture : (job : Job) (setup : Setup) (sites : SitesView) (status : S
     → EndsAtAnInput job status before after
 at_the_capture job setup sites status before now after read left cause = record {
   file = inputs.Capture;
-  used = refl;
+  used = read.files;
   before_it = comes_to_capture job before setup sites read.stated;
   behind_it = leaves_earlier before now after read.at_turn left;
   cause = cause;
@@ -291,13 +301,13 @@ module _ (setup_path stations_path targets_path capture_path journal_path : List
   ends_in_it : (fault : ReplayFault) → AreRead it setup sites before now
       → HasStopped setup sites fault now after → HasEnded it (status_of fault) before after
   ends_in_it fault read stopped = record {
-    at_an_input = at_the_capture it setup sites (status_of fault) before now after read
+    cause = at_the_capture it setup sites (status_of fault) before now after read
         stopped.other_inputs (cause_of fault before now after
         (read.at_turn.inputs inputs.Capture (omega arith)) stopped.read stopped.limit);
     counts = counts_from (status_of fault) before now after read.at_turn.counts
         (counts_of fault now after stopped.counts);
     appends = stops_so fault (begun_from it setup sites before now after read stopped.begun);
-    unused = leaves_unused_at_capture it before now after read.unused stopped.other_inputs;
+    unused = leaves_unused_at_capture it before now after refl read.unused stopped.other_inputs;
   }
 
   -- the work is done
@@ -307,7 +317,7 @@ module _ (setup_path stations_path targets_path capture_path journal_path : List
       → HasEnded it ends.Done before after
   ends_it totals read replays sums counts left =
       record {
-        at_an_input = at_the_capture it setup sites ends.Done before now after read left refl;
+        cause = at_the_capture it setup sites ends.Done before now after read left refl;
         counts = counts_from ends.Done before now after read.at_turn.counts counts;
         appends = record {
           setup = setup;
@@ -317,7 +327,7 @@ module _ (setup_path stations_path targets_path capture_path journal_path : List
           replays = replayed_from setup sites totals before now after read.at_turn replays;
           sums = sums;
         };
-        unused = leaves_unused_at_capture it before now after read.unused left;
+        unused = leaves_unused_at_capture it before now after refl read.unused left;
       }
 
 pub ends_in_the_replay : (job : Job) → IsReplay job → (setup : Setup) (sites : SitesView)
@@ -328,6 +338,7 @@ ends_in_the_replay (replay s st t c j) is setup sites fault before now after rea
 ends_in_the_replay (station s st c n) is setup sites fault before now after read stopped =
     absurd is
 ends_in_the_replay (check s st t c) is setup sites fault before now after read stopped = absurd is
+ends_in_the_replay (drill n m k) is setup sites fault before now after read stopped = absurd is
 
 pub ends_done : (job : Job) → IsReplay job → (setup : Setup) (sites : SitesView)
     (totals : Totals) (before now after : HostView) → AreRead job setup sites before now
@@ -339,4 +350,6 @@ ends_done (replay s st t c j) is setup sites totals before now after read replay
 ends_done (station s st c n) is setup sites totals before now after read replays sums counts
     left = absurd is
 ends_done (check s st t c) is setup sites totals before now after read replays sums counts left =
+    absurd is
+ends_done (drill n m k) is setup sites totals before now after read replays sums counts left =
     absurd is

@@ -11,3 +11,12 @@ pub mod Commands
 pub mod Numbers
 pub mod Clapping
 pub mod Accepted
+pub mod Drawing
+pub mod Putting
+pub mod Table
+pub mod Answered
+pub mod Summed
+pub mod Shown
+pub mod Summaries
+pub mod Lawful
+pub mod DrillEnds

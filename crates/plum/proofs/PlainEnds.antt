@@ -14,22 +14,24 @@ use Rattle.plum_replay.specs.Captured.{FailsWithin, HasTooMany}
 use Rattle.plum_replay.specs.Faults.{CountsStop}
 use Rattle.plum.specs.declared.status.Status.TheVariants as ends
 use Rattle.plum.specs.Ended.{AppendsEnd, AreRead, DoesJob, HasEnded}
-use Rattle.plum.specs.Job.{Job, replay, station, check, IsCheck, IsPlain, IsStation}
+use Rattle.plum.specs.Job.{Job, replay, station, check, drill, IsCheck, IsPlain, IsStation}
 use Rattle.plum.specs.Plain.{AppendsPlain, AppendsPlainBegun, LeavesJournal, StopsInTelling}
 use Rattle.plum.specs.Plain.{TellsFiles}
 use Rattle.plum.specs.Status.{status_of}
-use Rattle.plum.proofs.Endings.{at_the_capture, cause_of, counts_from, counts_of}
+use Rattle.plum.proofs.Endings.{at_the_capture, caused_at, cause_of, counts_from, counts_of}
 use Rattle.plum.proofs.Turns.{leaves_unused_at_capture}
 
 pub station_is_plain : (code : ℕ) (job : Job) → IsStation code job → IsPlain job
 station_is_plain code (replay s st t c j) is = absurd is
 station_is_plain code (station s st c n) is = tt
 station_is_plain code (check s st t c) is = absurd is
+station_is_plain code (drill n m k) is = absurd is
 
 pub check_is_plain : (job : Job) → IsCheck job → IsPlain job
 check_is_plain (replay s st t c j) is = absurd is
 check_is_plain (station s st c n) is = absurd is
 check_is_plain (check s st t c) is = tt
+check_is_plain (drill n m k) is = absurd is
 
 -- what such a command promises where it stops
 pub record HasStoppedTelling (job : Job) (setup : Setup) (stations : List StationSite)
@@ -54,12 +56,14 @@ stops_so (check s st t c) replays.Read before after plain stops = stops
 stops_so (check s st t c) replays.Write before after plain stops = stops
 stops_so (check s st t c) replays.Limit before after plain stops = stops
 stops_so (check s st t c) replays.NoMemory before after plain stops = stops
+stops_so (drill n m k) fault before after plain stops = absurd plain
 
 does_so : (job : Job) (before after : HostView) → IsPlain job → TellsFiles job before after
     → DoesJob job before after
 does_so (replay s st t c j) before after plain tells = absurd plain
 does_so (station s st c n) before after plain tells = tells
 does_so (check s st t c) before after plain tells = tells
+does_so (drill n m k) before after plain tells = absurd plain
 
 module _ (job : Job) (plain : IsPlain job) (setup : Setup) (sites : SitesView)
     (before now after : HostView) (read : AreRead job setup sites before now) where
@@ -110,13 +114,13 @@ module _ (job : Job) (plain : IsPlain job) (setup : Setup) (sites : SitesView)
       → HasStoppedTelling job setup sites.stations fault now after
       → HasEnded job (status_of fault) before after
   ends_in_the_telling fault stopped = record {
-    at_an_input = at_the_capture job setup sites (status_of fault) before now after read
-        stopped.other_inputs (cause_of fault before now after
-        (read.at_turn.inputs inputs.Capture (omega arith)) stopped.read stopped.limit);
+    cause = caused_at job (status_of fault) before after read.files (at_the_capture job setup sites
+        (status_of fault) before now after read stopped.other_inputs (cause_of fault before now
+        after (read.at_turn.inputs inputs.Capture (omega arith)) stopped.read stopped.limit));
     counts = counts_from (status_of fault) before now after read.at_turn.counts
         (counts_of fault now after stopped.counts);
     appends = stops_so job fault before after plain (stopped_from stopped.journal stopped.begun);
-    unused = leaves_unused_at_capture job before now after read.unused stopped.other_inputs;
+    unused = leaves_unused_at_capture job before now after read.files read.unused stopped.other_inputs;
   }
 
   -- the work is done
@@ -124,8 +128,9 @@ module _ (job : Job) (plain : IsPlain job) (setup : Setup) (sites : SitesView)
       AppendsPlain job setup sites.stations capture now after) → CountsNothing now after
       → LeavesOtherInputs inputs.Capture now after → HasEnded job ends.Done before after
   ends_told tells counts left = record {
-    at_an_input = at_the_capture job setup sites ends.Done before now after read left refl;
+    cause = caused_at job ends.Done before after read.files (at_the_capture job setup sites
+        ends.Done before now after read left refl);
     counts = counts_from ends.Done before now after read.at_turn.counts counts;
     appends = does_so job before after plain (told_from tells);
-    unused = leaves_unused_at_capture job before now after read.unused left;
+    unused = leaves_unused_at_capture job before now after read.files read.unused left;
   }

@@ -21,7 +21,7 @@ use Rattle.plum_text.specs.Texts.{totals_line}
 use Rattle.plum.specs.declared.tally.Tally.{Tally}
 use Rattle.plum.specs.declared.teller.Teller.TheVariants.{Watching, Counting}
 use Rattle.plum.specs.declared.watch.Watch.{Watch}
-use Rattle.plum.specs.Job.{replay, station, check}
+use Rattle.plum.specs.Job.{replay, station, check, drill}
 use Rattle.plum.specs.Plain.{value_line, refused_line, packets_of, counts_line, totals_in}
 use Rattle.plum.specs.Tallied.{HasTallied}
 use Rattle.plum.specs.Telling.{TellsOneMore, TellsEnd}
@@ -128,6 +128,8 @@ watch_ends watch told count tail is (replay s st t c j) setup stations segments 
     absurd it
 watch_ends watch told count tail is (check s st t c) setup stations segments text it long has =
     absurd it
+watch_ends watch told count tail is (drill n m k) setup stations segments text it long has =
+    absurd it
 watch_ends watch told count tail is (station s st c n) setup stations segments text it long
     (history, has, text_is) =
     let own = packets_of watch.number (packets_in (bodies_of segments)) in
@@ -155,6 +157,8 @@ pub count_ends : (tally : Tally) (told : List ℕ) (count tail : ℕ) (totals : 
 count_ends tally told count tail totals are is (replay s st t c j) setup stations segments text it
     long has = absurd it
 count_ends tally told count tail totals are is (station s st c n) setup stations segments text it
+    long has = absurd it
+count_ends tally told count tail totals are is (drill n m k) setup stations segments text it
     long has = absurd it
 count_ends tally told count tail totals are is (check s st t c) setup stations segments text it
     long (has, text_is) =

@@ -10,7 +10,7 @@ use Rattle.plum_host.specs.Frames.{OnlyReads, LeavesOtherInputs}
 use Rattle.plum_host.specs.Counting.{CountsNothing}
 use Rattle.plum_host.proofs.Frames.{CountsNothing-join}
 use Rattle.plum.specs.Files.{IsSetupFile, IsStationFile, FilesState, IsFile, turn_of, uses}
-use Rattle.plum.specs.Files.{uses_targets}
+use Rattle.plum.specs.Files.{uses_files, uses_targets}
 use Rattle.plum.specs.Causes.{ComesTo, LeavesBehind, LeavesUnused}
 use Rattle.plum.specs.Job.{Job}
 use Rattle.plum.specs.Ended.{IsAtTurn}
@@ -78,55 +78,55 @@ leaves_behind file before now after so_far frame later behind =
 
 -- What the command does not use is left alone where the work ends at an input that it uses, and
 -- those before that one, and it, alone are read.
-pub leaves_unused : (job : Job) (file : In) (before after : HostView) → uses job file ≡ true
-    → IsFile file → LeavesBehind file before after → LeavesUnused job before after
-leaves_unused job file before after used turn behind inputs.Setup none = absurd cc
-leaves_unused job file before after used turn behind inputs.Stations none = absurd cc
-leaves_unused job inputs.Setup before after used turn behind inputs.Targets none =
+pub leaves_unused : (job : Job) (file : In) (before after : HostView) → uses_files job ≡ true
+    → uses job file ≡ true → IsFile file → LeavesBehind file before after → LeavesUnused job before after
+leaves_unused job file before after files used turn behind inputs.Setup none = absurd cc
+leaves_unused job file before after files used turn behind inputs.Stations none = absurd cc
+leaves_unused job inputs.Setup before after files used turn behind inputs.Targets none =
     behind inputs.Targets (omega arith)
-leaves_unused job inputs.Stations before after used turn behind inputs.Targets none =
+leaves_unused job inputs.Stations before after files used turn behind inputs.Targets none =
     behind inputs.Targets (omega arith)
-leaves_unused job inputs.Targets before after used turn behind inputs.Targets none = absurd cc
-leaves_unused job inputs.Capture before after used turn behind inputs.Targets none =
+leaves_unused job inputs.Targets before after files used turn behind inputs.Targets none = absurd cc
+leaves_unused job inputs.Capture before after files used turn behind inputs.Targets none =
     absurd (omega arith)
-leaves_unused job inputs.Journal before after used turn behind inputs.Targets none = absurd cc
-leaves_unused job inputs.Output before after used turn behind inputs.Targets none = absurd cc
-leaves_unused job file before after used turn behind inputs.Capture none = absurd cc
-leaves_unused job file before after used turn behind inputs.Journal none =
+leaves_unused job inputs.Journal before after files used turn behind inputs.Targets none = absurd cc
+leaves_unused job inputs.Output before after files used turn behind inputs.Targets none = absurd cc
+leaves_unused job file before after files used turn behind inputs.Capture none = absurd cc
+leaves_unused job file before after files used turn behind inputs.Journal none =
     behind inputs.Journal (omega arith)
-leaves_unused job file before after used turn behind inputs.Output none =
+leaves_unused job file before after files used turn behind inputs.Output none =
     behind inputs.Output (omega arith)
 
 -- So where the work ends at the capture, if the targets were left alone or are used.
 pub leaves_unused_at_capture : (job : Job) (before now after : HostView)
-    → LeavesUnused job before now → LeavesOtherInputs inputs.Capture now after
+    → uses_files job ≡ true → LeavesUnused job before now → LeavesOtherInputs inputs.Capture now after
     → LeavesUnused job before after
-leaves_unused_at_capture job before now after unused left inputs.Setup none = absurd cc
-leaves_unused_at_capture job before now after unused left inputs.Stations none = absurd cc
-leaves_unused_at_capture job before now after unused left inputs.Targets none =
+leaves_unused_at_capture job before now after files unused left inputs.Setup none = absurd cc
+leaves_unused_at_capture job before now after files unused left inputs.Stations none = absurd cc
+leaves_unused_at_capture job before now after files unused left inputs.Targets none =
     left inputs.Targets (λ same. absurd cc) ∙ unused inputs.Targets none
-leaves_unused_at_capture job before now after unused left inputs.Capture none = absurd cc
-leaves_unused_at_capture job before now after unused left inputs.Journal none =
+leaves_unused_at_capture job before now after files unused left inputs.Capture none = absurd cc
+leaves_unused_at_capture job before now after files unused left inputs.Journal none =
     left inputs.Journal (λ same. absurd cc) ∙ unused inputs.Journal none
-leaves_unused_at_capture job before now after unused left inputs.Output none =
+leaves_unused_at_capture job before now after files unused left inputs.Output none =
     left inputs.Output (λ same. absurd cc) ∙ unused inputs.Output none
 
 -- What the command does not use is left alone before the capture, where the targets are skipped.
 pub unused_before_capture : (job : Job) (before between now : HostView)
-    → IsAtTurn inputs.Targets before between → IsAtTurn inputs.Capture before now
+    → uses_files job ≡ true → IsAtTurn inputs.Targets before between → IsAtTurn inputs.Capture before now
     → (uses_targets job ≡ false → now.left inputs.Targets ≡ between.left inputs.Targets)
     → LeavesUnused job before now
-unused_before_capture job before between now at_targets at_capture skipped inputs.Setup none =
+unused_before_capture job before between now files at_targets at_capture skipped inputs.Setup none =
     absurd cc
-unused_before_capture job before between now at_targets at_capture skipped inputs.Stations none =
+unused_before_capture job before between now files at_targets at_capture skipped inputs.Stations none =
     absurd cc
-unused_before_capture job before between now at_targets at_capture skipped inputs.Targets none =
+unused_before_capture job before between now files at_targets at_capture skipped inputs.Targets none =
     skipped none ∙ at_targets.inputs inputs.Targets (omega arith)
-unused_before_capture job before between now at_targets at_capture skipped inputs.Capture none =
+unused_before_capture job before between now files at_targets at_capture skipped inputs.Capture none =
     absurd cc
-unused_before_capture job before between now at_targets at_capture skipped inputs.Journal none =
+unused_before_capture job before between now files at_targets at_capture skipped inputs.Journal none =
     at_capture.inputs inputs.Journal (omega arith)
-unused_before_capture job before between now at_targets at_capture skipped inputs.Output none =
+unused_before_capture job before between now files at_targets at_capture skipped inputs.Output none =
     at_capture.inputs inputs.Output (omega arith)
 
 -- it is read, and the next one has its turn

@@ -16,7 +16,7 @@ use Rattle.plum.specs.declared.status.Status.{Status}
 use Rattle.plum.specs.declared.status.Status.TheVariants.{Done, Usage, Setup, Sites, ReadFault}
 use Rattle.plum.specs.declared.status.Status.TheVariants.{WriteFault, Limit, NoMemory}
 use Rattle.plum.specs.Files.{MOST_BYTES, IsLawful, turn_of, IsFile, uses}
-use Rattle.plum.specs.Job.{Job}
+use Rattle.plum.specs.Job.{Job, replay, station, check, drill}
 
 -- The bytes of a file that is within the limit, and this is what is wrong first with it.
 abbrev pub IsFaultySetupFile : SetupFault → List ℕ → Type 0
@@ -74,3 +74,20 @@ pub record EndsAtAnInput (job : Job) (status : Status) (before after : HostView)
   pub before_it : ComesTo job file before
   pub behind_it : LeavesBehind file before after
   pub cause : IsCause status file before after
+
+-- A drill reads no input: its work is done, a write fails, or memory is short.
+abbrev pub IsEndOfDrill : Status → Type 0
+IsEndOfDrill Done = ⊤
+IsEndOfDrill WriteFault = ⊤
+IsEndOfDrill NoMemory = ⊤
+IsEndOfDrill status = ⊥
+
+-- why the work of a command ended so
+abbrev pub HasCause : Job → Status → HostView → HostView → Type 0
+HasCause (replay setup stations targets capture journal) status before after =
+    EndsAtAnInput (replay setup stations targets capture journal) status before after
+HasCause (station setup stations capture code) status before after =
+    EndsAtAnInput (station setup stations capture code) status before after
+HasCause (check setup stations targets capture) status before after =
+    EndsAtAnInput (check setup stations targets capture) status before after
+HasCause (drill seed stations seconds) status before after = IsEndOfDrill status

@@ -1,5 +1,5 @@
 -- How the work of a call ended, and what it did until then.
-use Rattle.std.specs.Prelude.{◌≡◌, ◌≤◌}
+use Rattle.std.specs.Prelude.{◌≡◌, ◌≤◌, true}
 use Rattle.plum_base.specs.declared.setup.Setup.{Setup}
 use Rattle.plum_base.specs.Sites.{SitesView}
 use Rattle.plum_host.specs.declared.host.In.{In}
@@ -11,14 +11,16 @@ use Rattle.plum.specs.declared.status.LimitOf.TheVariants.{Records}
 use Rattle.plum.specs.declared.status.Status.{Status}
 use Rattle.plum.specs.declared.status.Status.TheVariants.{Done, ReadFault, WriteFault, Limit}
 use Rattle.plum.specs.declared.status.Status.TheVariants.{NoMemory}
-use Rattle.plum.specs.Causes.{EndsAtAnInput, LeavesUnused}
-use Rattle.plum.specs.Files.{turn_of, FilesState}
-use Rattle.plum.specs.Job.{Job, replay, station, check}
+use Rattle.plum.specs.Causes.{HasCause, LeavesUnused}
+use Rattle.plum.specs.DrillSummary.{StopsInDrill, TellsDrill}
+use Rattle.plum.specs.Files.{turn_of, uses_files, FilesState}
+use Rattle.plum.specs.Job.{Job, replay, station, check, drill}
 use Rattle.plum.specs.Plain.{TellsFiles, StopsInTelling}
 use Rattle.plum.specs.Replayed.{AppendsNothing, ReplaysFiles, StopsInReplay}
 use Rattle.plum.specs.Status.{CountsEnd}
 
--- What a command does: `replay` writes the two texts of a replay, the plain commands their own.
+-- What a command does: `replay` writes the two texts of a replay, the plain commands their own, and
+-- `drill` its summary.
 abbrev pub DoesJob : Job → HostView → HostView → Type 0
 DoesJob (replay setup stations targets capture journal) before after =
     ReplaysFiles (replay setup stations targets capture journal) before after
@@ -26,8 +28,10 @@ DoesJob (station setup stations capture code) before after =
     TellsFiles (station setup stations capture code) before after
 DoesJob (check setup stations targets capture) before after =
     TellsFiles (check setup stations targets capture) before after
+DoesJob (drill seed stations seconds) before after =
+    TellsDrill seed stations seconds before after
 
--- What stands in the outputs where a fault breaks it off behind the files.
+-- What stands in the outputs where a fault breaks it off behind the files that it uses.
 abbrev pub BreaksOff : Job → HostView → HostView → Type 0
 BreaksOff (replay setup stations targets capture journal) before after =
     StopsInReplay (replay setup stations targets capture journal) before after
@@ -35,6 +39,8 @@ BreaksOff (station setup stations capture code) before after =
     StopsInTelling (station setup stations capture code) before after
 BreaksOff (check setup stations targets capture) before after =
     StopsInTelling (check setup stations targets capture) before after
+BreaksOff (drill seed stations seconds) before after =
+    StopsInDrill seed stations seconds before after
 
 -- what stands in the outputs where it ended so
 abbrev pub AppendsEnd : Job → Status → HostView → HostView → Type 0
@@ -47,7 +53,7 @@ AppendsEnd job status before after = AppendsNothing before after
 
 -- the parts of the promise of a call
 pub record HasEnded (job : Job) (status : Status) (before after : HostView) : Type 0 where
-  pub at_an_input : EndsAtAnInput job status before after
+  pub cause : HasCause job status before after
   pub counts : CountsEnd status before after
   pub appends : AppendsEnd job status before after
   pub unused : LeavesUnused job before after
@@ -63,6 +69,7 @@ pub record IsAtTurn (file : In) (before now : HostView) : Type 0 where
 -- its turn.
 pub record AreRead (job : Job) (setup : Setup) (sites : SitesView) (before now : HostView)
     : Type 0 where
+  pub files : uses_files job ≡ true
   pub stated : FilesState job before setup sites
   pub at_turn : IsAtTurn inputs.Capture before now
   pub unused : LeavesUnused job before now

@@ -10,7 +10,7 @@ use Rattle.plum_host.specs.Told.{HostView, WhereTold}
 use Rattle.plum_table.specs.Setup.{fields_of, setup_of}
 use Rattle.plum_sites.specs.Stations.{AreStationsOf}
 use Rattle.plum_sites.specs.Targets.{AreTargetsOf}
-use Rattle.plum.specs.Job.{Job, replay, station, check}
+use Rattle.plum.specs.Job.{Job, replay, station, check, drill}
 
 -- the most bytes of such a file (the project's own limit)
 abbrev pub MOST_BYTES : ℕ
@@ -56,13 +56,21 @@ abbrev pub uses_targets : Job → Bool
 uses_targets (replay setup stations targets capture journal) = true
 uses_targets (station setup stations capture code) = false
 uses_targets (check setup stations targets capture) = true
+uses_targets (drill seed stations seconds) = false
+
+-- whether a command reads the setup, the stations and the capture; a drill reads nothing
+abbrev pub uses_files : Job → Bool
+uses_files (replay setup stations targets capture journal) = true
+uses_files (station setup stations capture code) = true
+uses_files (check setup stations targets capture) = true
+uses_files (drill seed stations seconds) = false
 
 -- whether a command reads this input
 abbrev pub uses : Job → In → Bool
-uses job inputs.Setup = true
-uses job inputs.Stations = true
+uses job inputs.Setup = uses_files job
+uses job inputs.Stations = uses_files job
 uses job inputs.Targets = uses_targets job
-uses job inputs.Capture = true
+uses job inputs.Capture = uses_files job
 uses job inputs.Journal = false
 uses job inputs.Output = false
 

@@ -10,3 +10,10 @@ pub mod Watched
 pub mod Tallied
 pub mod Telling
 pub mod Ended
+pub mod Draws
+pub mod DrillCapture
+pub mod DrillSites
+pub mod DrillSetup
+pub mod DrillFiles
+pub mod DrillSummary
+pub mod Summarized

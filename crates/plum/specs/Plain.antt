@@ -31,7 +31,7 @@ use Rattle.plum_host.specs.declared.host.To.TheVariants.{Out, Journal}
 use Rattle.plum_host.specs.Told.{HostView, WhereTold, Appends}
 use Rattle.plum_replay.specs.Captured.{IsReadToEnd}
 use Rattle.plum.specs.Files.{IsSetupFile, IsStationFile}
-use Rattle.plum.specs.Job.{Job, replay, station, check}
+use Rattle.plum.specs.Job.{Job, replay, station, check, drill}
 
 -- the packets of a station, none where there is no such station
 abbrev pub packets_of : Option StationNo → List Packet → List Packet
@@ -86,6 +86,7 @@ IsTextOver (station setup_path stations_path capture code) setup stations segmen
     × (text ≡ flat_map plain_line lines)
 IsTextOver (check setup_path stations_path targets capture) setup stations segments tail text =
     text ≡ flat_map out_line (check_lines segments tail)
+IsTextOver (drill seed drilled seconds) setup stations segments tail text = ⊥
 
 -- This is the text of a plain command over this capture, whole.
 pub record IsPlainText (job : Job) (setup : Setup) (stations : List StationSite)

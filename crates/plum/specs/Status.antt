@@ -73,7 +73,8 @@ abbrev pub text_of : Status → List ℕ
 text_of Done = []
 text_of Usage = codes "plum: usage: replay SETUP STATIONS TARGETS CAPTURE JOURNAL; "
     ++ codes "station SETUP STATIONS CAPTURE CODE; "
-    ++ codes "check SETUP STATIONS TARGETS CAPTURE\n"
+    ++ codes "check SETUP STATIONS TARGETS CAPTURE; "
+    ++ codes "drill SEED STATIONS SECONDS\n"
 text_of (Setup fault) = codes "plum: setup " ++ setup_fault_text fault ++ codes "\n"
 text_of (Sites file fault) =
     codes "plum: " ++ sites_file_text file ++ codes " " ++ site_fault_text fault ++ codes "\n"

@@ -11,7 +11,7 @@ use Rattle.plum_packet.specs.Segments.{Decoded, packets_in, refused_in}
 use Rattle.plum_text.specs.Lines.{plain_line, out_line}
 use Rattle.plum.specs.declared.teller.Teller.{Teller}
 use Rattle.plum.specs.declared.teller.Teller.TheVariants.{Watching, Counting}
-use Rattle.plum.specs.Job.{Job, replay, station, check}
+use Rattle.plum.specs.Job.{Job, replay, station, check, drill}
 use Rattle.plum.specs.Plain.{value_line, refused_line, IsTextOver}
 use Rattle.plum.specs.Tallied.{HasTallied, bodies_in}
 use Rattle.plum.specs.Watched.{HasWatched}
@@ -38,9 +38,11 @@ IsTellerOf (Watching watch) (replay setup stations_path targets capture journal)
 IsTellerOf (Watching watch) (station setup stations_path capture code) stations =
     IsFoundAt stations code watch.number
 IsTellerOf (Watching watch) (check setup stations_path targets capture) stations = ⊥
+IsTellerOf (Watching watch) (drill seed drilled seconds) stations = ⊥
 IsTellerOf (Counting tally) (replay setup stations_path targets capture journal) stations = ⊥
 IsTellerOf (Counting tally) (station setup stations_path capture code) stations = ⊥
 IsTellerOf (Counting tally) (check setup stations_path targets capture) stations = ⊤
+IsTellerOf (Counting tally) (drill seed drilled seconds) stations = ⊥
 
 -- Of these bodies it has told this text.
 abbrev pub HasToldText : Teller → Setup → List StationSite → List Decoded → List ℕ → Type 0

@@ -2,7 +2,9 @@
 use Rattle.std.specs.Prelude.{◌≡◌, List, [], ◌∷◌, Some, true, codes, drop, fold, map}
 use Rattle.clap.specs.Words.{App, Rule, Text, first_of, matches_of, new_app, new_rule, takes}
 use Rattle.clap.specs.Words.{with_rule}
-use Rattle.plum.specs.Job.{Job, replay, station, check, LAST_CODE, job_of, number_up_to}
+use Rattle.plum.specs.DrillFiles.{MOST_DRILL_STATIONS, MOST_DRILL_SECONDS}
+use Rattle.plum.specs.Job.{Job, replay, station, check, drill, LAST_CODE, LAST_SEED, job_of}
+use Rattle.plum.specs.Job.{count_up_to, number_up_to}
 
 -- a required positional word
 abbrev pub required_word : Text → Rule
@@ -20,6 +22,8 @@ ids_of (station setup stations capture code) =
     codes "SETUP" ∷ codes "STATIONS" ∷ codes "CAPTURE" ∷ codes "CODE" ∷ []
 ids_of (check setup stations targets capture) =
     codes "SETUP" ∷ codes "STATIONS" ∷ codes "TARGETS" ∷ codes "CAPTURE" ∷ []
+ids_of (drill seed stations seconds) =
+    codes "SEED" ∷ codes "STATIONS" ∷ codes "SECONDS" ∷ []
 
 -- a job's command, as `clap` has it
 abbrev pub app_for : Job → App
@@ -29,6 +33,8 @@ app_for (station setup stations capture code) =
     app_with (codes "station") (ids_of (station setup stations capture code))
 app_for (check setup stations targets capture) =
     app_with (codes "check") (ids_of (check setup stations targets capture))
+app_for (drill seed stations seconds) =
+    app_with (codes "drill") (ids_of (drill seed stations seconds))
 
 -- The words behind the command's name are those of the job.
 abbrev pub Spell : List Text → Job → Type 0
@@ -39,6 +45,11 @@ Spell words (station setup stations capture code) =
     × (words ≡ setup ∷ stations ∷ capture ∷ number ∷ [])
 Spell words (check setup stations targets capture) =
     words ≡ setup ∷ stations ∷ targets ∷ capture ∷ []
+Spell words (drill seed stations seconds) = (first : Text) × (second : Text) × (third : Text)
+    × (number_up_to LAST_SEED first ≡ Some seed)
+    × (count_up_to MOST_DRILL_STATIONS second ≡ Some stations)
+    × (count_up_to MOST_DRILL_SECONDS third ≡ Some seconds)
+    × (words ≡ first ∷ second ∷ third ∷ [])
 
 -- `clap` takes the words of this job, and has each under its name.
 pub record IsRead (job : Job) (words : List Text) : Type 0 where

@@ -4,9 +4,12 @@ ghost use Rattle.std.specs.Prelude.{◌≡◌, ℕ, [], map, string_bytes, None,
 ghost use Rattle.std.specs.Prelude.{MatchOption, is_some, true};
 ghost use Rattle.std.specs.Option.{option_map};
 ghost use Rattle.plum.specs.Asked.{job_in, name_of};
-ghost use Rattle.plum.specs.Job.{LAST_CODE, number_up_to, job_of, paths_in};
+ghost use Rattle.plum.specs.Job.{LAST_CODE, LAST_SEED, number_up_to, count_up_to, job_of, paths_in};
 
-use crate::grammar::{CommandName, LAST_CODE, command_of, read_number};
+use crate::grammar::{
+    CommandName, LAST_CODE, LAST_SEED, MOST_DRILL_SECONDS, MOST_DRILL_STATIONS, command_of,
+    read_count, read_number,
+};
 use crate::words::{clap_reads_the_grammar, read_with, word};
 use plum_base::NoMemory;
 use plum_host::{PathText, Paths};
@@ -37,6 +40,12 @@ pub enum Job<'a> {
         targets: &'a str,
         capture: &'a str,
     },
+    /// Writes the summary of a drill.
+    Drill {
+        seed: u64,
+        stations: u16,
+        seconds: u16,
+    },
 }
 
 /// Under which names `clap` has the words of `replay`.
@@ -47,6 +56,9 @@ static STATION_IDS: [&str; 4] = ["SETUP", "STATIONS", "CAPTURE", "CODE"];
 
 /// Those of `check`.
 static CHECK_IDS: [&str; 4] = ["SETUP", "STATIONS", "TARGETS", "CAPTURE"];
+
+/// Those of `drill`.
+static DRILL_IDS: [&str; 3] = ["SEED", "STATIONS", "SECONDS"];
 
 /// What `replay` works on, where the words ask for it.
 fn read_replay<'a>(alloc: Global, words: &'a [String]) -> Result<Job<'a>, NoMemory>
@@ -113,6 +125,43 @@ fn read_check<'a>(alloc: Global, words: &'a [String]) -> Result<Job<'a>, NoMemor
     })
 }
 
+/// The seed that the word is, where it is one.
+fn seed_in(word: &str) -> u64
+    ensures { (seed : ℕ) → number_up_to LAST_SEED word.now ≡ Some seed → result ≡ seed }
+{
+    match read_number(word, LAST_SEED) {
+        Some(seed) => seed,
+        None => 0,
+    }
+}
+
+/// The number from 1 to `most` that the word is, where it is one.
+fn count_in(word: &str, most: u16) -> u16
+    ensures { (count : ℕ) → count_up_to most word.now ≡ Some count → result ≡ count }
+{
+    match read_count(word, most) {
+        Some(count) => count,
+        None => 0,
+    }
+}
+
+/// What `drill` works on, where the words ask for it.
+fn read_drill<'a>(alloc: Global, words: &'a [String]) -> Result<Job<'a>, NoMemory>
+    requires { option_map name_of (job_of (map string_bytes words.now))
+        ≡ Some CommandName.Drill }
+    ensures { IfOk result (λ job. job_of (map string_bytes words.entry.now)
+        ≡ Some (job_in job)) }
+{
+    // For the contract: `clap` takes these words.
+    clap_reads_the_grammar();
+    let matches = read_with(alloc, "drill", DRILL_IDS.as_slice(), words)?;
+    Ok(Job::Drill {
+        seed: seed_in(word(&matches, "SEED")),
+        stations: count_in(word(&matches, "STATIONS"), MOST_DRILL_STATIONS),
+        seconds: count_in(word(&matches, "SECONDS"), MOST_DRILL_SECONDS),
+    })
+}
+
 /// What the words ask for, or none where they are not of the grammar. The grammar decides; then
 /// `clap` reads the words, and refuses none of them but for want of memory.
 pub fn read_words<'a>(alloc: Global, words: &'a [String]) -> Result<Option<Job<'a>>, NoMemory>
@@ -127,6 +176,7 @@ pub fn read_words<'a>(alloc: Global, words: &'a [String]) -> Result<Option<Job<'
         Some(CommandName::Replay) => read_replay(alloc, words)?,
         Some(CommandName::Station) => read_station(alloc, words)?,
         Some(CommandName::Check) => read_check(alloc, words)?,
+        Some(CommandName::Drill) => read_drill(alloc, words)?,
     };
     Ok(Some(job))
 }
@@ -190,6 +240,6 @@ pub fn paths_of(alloc: Global, words: &[String]) -> Result<Paths, NoMemory>
                 capture,
             },
         ) => paths_from(alloc, setup, stations, targets, capture, ""),
-        None => paths_from(alloc, "", "", "", "", ""),
+        Some(Job::Drill { .. }) | None => paths_from(alloc, "", "", "", "", ""),
     }
 }

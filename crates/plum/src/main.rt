@@ -1,11 +1,13 @@
 //! plum: an earthquake early warning centre that replays captures.
 //!
-//! It owns the words, the statuses, the order in which the files are read, and the commands that
-//! write no journal. It promises `run` and `run_plain`: how each call ends, and what stands in the
-//! outputs then. It must not know what a file states, how a replay is done, how a body becomes a
-//! packet, which packets are kept, or how a line is spelled.
+//! It owns the words, the statuses, the order in which the files are read, the commands that write
+//! no journal, and the files of a drill. It promises `run` and `run_plain`: how each call ends, and
+//! what stands in the outputs then; and `drill_host`: which files a drill has. It must not know what
+//! a file states, how a replay is done, how a body becomes a packet, which packets are kept, or how
+//! a line is spelled.
 #![tactic(auto)]
 
+mod drill;
 mod files;
 mod grammar;
 mod job;
@@ -19,6 +21,7 @@ mod watch;
 mod words;
 mod work;
 
+pub use drill::drill_host;
 pub use job::paths_of;
 use plum_base::NoMemory;
 use plum_host::StdHost;

@@ -8,6 +8,7 @@ use plum_centre::Centre;
 use plum_snap::{Doors, OpenFault, Session};
 use std::alloc::Global;
 use std::sync::Wait;
+use std::thread;
 
 /// A new centre. It is opened again where its board was refused a place for a reader.
 pub fn open_centre<R: Wait>(
@@ -23,7 +24,7 @@ pub fn open_centre<R: Wait>(
     for _ in rt.forever() {
         match Centre::open(rt, alloc, sites, setup, &mut doors) {
             Ok(centre) => return Ok(centre),
-            Err(OpenFault::NoPlace) => {}
+            Err(OpenFault::NoPlace) => thread::yield_now(),
             Err(OpenFault::NoMemory) => return Err(NoMemory),
         }
     }

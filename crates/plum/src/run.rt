@@ -3,17 +3,17 @@
 ghost use Rattle.std.specs.Prelude.{◌≡◌, ◌↔◌, map, string_bytes, None, Some, IfSome, IfOk, IfErr};
 ghost use Rattle.std.specs.Prelude.{MatchOption, MatchResult, is_some, true};
 ghost use Rattle.plum.specs.Asked.{job_in};
-ghost use Rattle.plum.specs.Causes.{EndsAtAnInput, LeavesUnused};
+ghost use Rattle.plum.specs.Causes.{HasCause, LeavesUnused};
 ghost use Rattle.plum.specs.Ended.{AppendsEnd, DoesJob, HasEnded};
 ghost use Rattle.plum.specs.Files.{TellsLawfulFiles};
-ghost use Rattle.plum.specs.Job.{IsPlain, job_of, plain_job_of};
+ghost use Rattle.plum.specs.Job.{HasSize, IsPlain, job_of, plain_job_of};
 ghost use Rattle.plum.specs.Status.{CountsEnd, MeetsNoFault, IsAnswerWithoutFault};
 ghost use Rattle.plum.specs.Status.{IsAnswerOverLawfulFiles};
 
 use crate::grammar::{CommandName, command_of};
 use crate::job::{Job, read_words};
 use crate::status::Status;
-use crate::work::{check_files, replay_files, show_station};
+use crate::work::{check_files, replay_files, show_drill, show_station};
 use plum_base::NoMemory;
 use plum_host::Host;
 use plum_replay::Gate;
@@ -43,7 +43,7 @@ fn work_plain<H: Host>(alloc: Global, job: Job<'_>, host: &mut H) -> Status
     // For the contract: a file that states sites has no fault.
     files_have_one_answer();
     match job {
-        Job::Replay { .. } => unreachable!(),
+        Job::Replay { .. } | Job::Drill { .. } => unreachable!(),
         Job::Station { code, .. } => status_of(show_station(alloc, code, host)),
         Job::Check { .. } => status_of(check_files(alloc, host)),
     }
@@ -57,6 +57,7 @@ fn work<R: Threads + Wait + Sync, H: Host, G: Gate + Sync>(
     host: &mut H,
     gate: &G,
 ) -> Status
+    requires size { HasSize (job_in job) }
     ensures ended { HasEnded (job_in job.entry) result (H.told host.old) (H.told host.new) }
     ensures lawful { MeetsNoFault (H.told host.old) (H.told host.new)
         → TellsLawfulFiles (job_in job.entry) (H.told host.old)
@@ -66,11 +67,17 @@ fn work<R: Threads + Wait + Sync, H: Host, G: Gate + Sync>(
     files_have_one_answer();
     match job {
         Job::Replay { .. } => status_of(replay_files(rt, alloc, host, gate)),
+        Job::Drill {
+            seed,
+            stations,
+            seconds,
+        } => status_of(show_drill(rt, alloc, seed, stations, seconds, host, gate)),
         plain => work_plain(alloc, plain, host),
     }
 }
 
-/// The plain command that the words ask for, or none where they ask for nothing, or for `replay`.
+/// The plain command that the words ask for, or none where they ask for nothing, or for a command
+/// that replays.
 fn read_plain<'a>(alloc: Global, words: &'a [String]) -> Result<Option<Job<'a>>, NoMemory>
     ensures job { IfOk result (λ asked. MatchOption asked
         (plain_job_of (map string_bytes words.entry.now) ≡ None)
@@ -80,7 +87,7 @@ fn read_plain<'a>(alloc: Global, words: &'a [String]) -> Result<Option<Job<'a>>,
 {
     match command_of(words) {
         Some(CommandName::Station | CommandName::Check) => read_words(alloc, words),
-        Some(CommandName::Replay) | None => Ok(None),
+        Some(CommandName::Replay | CommandName::Drill) | None => Ok(None),
     }
 }
 
@@ -97,7 +104,7 @@ pub fn run_plain<H: Host>(alloc: Global, words: &[String], host: &mut H) -> Stat
     ensures headline { IfSome (plain_job_of (map string_bytes words.now)) (λ job.
         result ≡ Status.Done → DoesJob job (H.told host.old) (H.told host.new)) }
     ensures cause { IfSome (plain_job_of (map string_bytes words.now)) (λ job.
-        EndsAtAnInput job result (H.told host.old) (H.told host.new)) }
+        HasCause job result (H.told host.old) (H.told host.new)) }
 
     ensures complete { IfSome (plain_job_of (map string_bytes words.now)) (λ job.
         MeetsNoFault (H.told host.old) (H.told host.new) → IsAnswerWithoutFault result) }
@@ -119,8 +126,9 @@ pub fn run_plain<H: Host>(alloc: Global, words: &[String], host: &mut H) -> Stat
 }
 
 /// Does what the words ask for: `replay` reads the setup, the stations and the targets, and writes
-/// the journal and the predictions of the capture over them; the plain commands as `run_plain`,
-/// without threads. The gate is that of the replay.
+/// the journal and the predictions of the capture over them; `drill` replays files that it makes
+/// itself, and writes a summary; the plain commands as `run_plain`, without threads. The gate is
+/// that of the replay.
 ///
 /// What a host does not tell, no clause speaks of.
 pub fn run<R: Threads + Wait + Sync, H: Host, G: Gate + Sync>(
@@ -137,16 +145,16 @@ pub fn run<R: Threads + Wait + Sync, H: Host, G: Gate + Sync>(
     // The work done. Of `replay`: over the setup and the sites that the files state, the two texts
     // of one legal transcript are appended, every body is accounted for, the alerts are by the
     // rules, and the capture is read to its end, within the limit. Of the plain commands: the text
-    // of the command over the whole capture is appended.
+    // of the command over the whole capture is appended. Of a drill: its summary is.
     ensures headline { IfSome (job_of (map string_bytes words.now)) (λ job.
         result ≡ Status.Done → DoesJob job (H.told host.old) (H.told host.new)) }
 
     // The work ends at one input, and the status tells why. The inputs before that one are lawful,
     // and those behind it are not read, where memory is short too. So a fault is told exactly where
     // it is the first in the order of the work, unless memory is short or a read fails before it is
-    // met.
+    // met. A drill reads nothing: its work is done, a write fails, or memory is short.
     ensures cause { IfSome (job_of (map string_bytes words.now)) (λ job.
-        EndsAtAnInput job result (H.told host.old) (H.told host.new)) }
+        HasCause job result (H.told host.old) (H.told host.new)) }
 
     // With lawful words and no fault the work is done, or a file or the capture is refused, or
     // memory is short. With lawful files no file is refused.
@@ -161,7 +169,8 @@ pub fn run<R: Threads + Wait + Sync, H: Host, G: Gate + Sync>(
 
     // What stands in the outputs. Of a replay the beginnings of two texts of one transcript, in
     // order, whatever stops it, over the segments that were read. A plain command appends nothing to
-    // the journal, and to the output a beginning of its text over the capture.
+    // the journal, and to the output a beginning of its text over the capture; so does a drill, of
+    // its summary.
     ensures outputs { IfSome (job_of (map string_bytes words.now)) (λ job.
         AppendsEnd job result (H.told host.old) (H.told host.new)) }
 

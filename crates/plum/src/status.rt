@@ -123,7 +123,8 @@ fn put_usage(text: &mut Bytes) -> Result<(), NoMemory>
 {
     text.extend(b"plum: usage: replay SETUP STATIONS TARGETS CAPTURE JOURNAL; ")?;
     text.extend(b"station SETUP STATIONS CAPTURE CODE; ")?;
-    text.extend(b"check SETUP STATIONS TARGETS CAPTURE\n")
+    text.extend(b"check SETUP STATIONS TARGETS CAPTURE; ")?;
+    text.extend(b"drill SEED STATIONS SECONDS\n")
 }
 
 /// One line with its line feed, or nothing for `Done`.

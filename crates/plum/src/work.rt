@@ -7,12 +7,15 @@ ghost use Rattle.plum_host.specs.Frames.{OnlyReads};
 ghost use Rattle.plum_host.specs.Told.{WhereTold};
 ghost use Rattle.plum_host.specs.declared.host.In.TheVariants as inputs;
 ghost use Rattle.plum.specs.declared.status.Status.TheVariants as ends;
+ghost use Rattle.plum_replay.specs.Faults.{fault_of_write};
 ghost use Rattle.plum.specs.Causes.{IsCause};
 ghost use Rattle.plum.specs.Ended.{HasEnded, AreRead};
-ghost use Rattle.plum.specs.Files.{uses_targets, IsTargetFile};
-ghost use Rattle.plum.specs.Job.{Job, IsReplay, IsStation, IsCheck};
+ghost use Rattle.plum.specs.Files.{uses_files, uses_targets, IsTargetFile};
+ghost use Rattle.plum.specs.DrillFiles.{IsDrillSize};
+ghost use Rattle.plum.specs.Job.{Job, drill, IsReplay, IsStation, IsCheck};
 ghost use Rattle.plum.specs.Status.{CountsEnd, status_of};
 
+use crate::drill::drill_summary;
 use crate::files::{load_setup, load_stations, load_targets};
 use crate::opening::{end_centre, open_centre};
 use crate::status::{LimitOf, Status};
@@ -21,7 +24,7 @@ use crate::teller::Teller;
 use crate::telling::tell_capture;
 use crate::watch::Watch;
 use plum_base::{NoMemory, Setup, Sites, TargetSite};
-use plum_host::Host;
+use plum_host::{Host, To, WriteRefusal, put_all};
 use plum_replay::{Gate, ReplayFault, replay};
 use std::alloc::Global;
 use std::sync::Wait;
@@ -44,6 +47,17 @@ impl From<ReplayFault> for Status {
             ReplayFault::Write => Status::WriteFault,
             ReplayFault::Limit => Status::Limit(LimitOf::Records),
             ReplayFault::NoMemory => Status::NoMemory,
+        }
+    }
+}
+
+impl From<WriteRefusal> for Status {
+    ghost from_gives = { λ refusal status. status ≡ status_of (fault_of_write refusal) };
+
+    fn from(refusal: WriteRefusal) -> Status {
+        match refusal {
+            WriteRefusal::Failed => Status::WriteFault,
+            WriteRefusal::NoMemory => Status::NoMemory,
         }
     }
 }
@@ -82,9 +96,11 @@ fn load_wanted_targets<H: Host>(
 /// Reads the files before the capture, each where those before it are lawful: the targets where
 /// the command uses them.
 fn load_files<H: Host>(alloc: Global, with_targets: bool, host: &mut H) -> Result<Stated, Status>
-    ensures read { (job : Job) → uses_targets job ≡ with_targets → IfOk result (λ stated.
+    ensures read { (job : Job) → uses_files job ≡ true → uses_targets job ≡ with_targets
+        → IfOk result (λ stated.
         AreRead job stated.setup stated.sites (H.told host.old) (H.told host.new)) }
-    ensures ended { (job : Job) → uses_targets job ≡ with_targets → IfErr result (λ status.
+    ensures ended { (job : Job) → uses_files job ≡ true → uses_targets job ≡ with_targets
+        → IfErr result (λ status.
         HasEnded job status (H.told host.old) (H.told host.new)) }
 {
     let setup = load_setup(alloc, host)?;
@@ -146,5 +162,27 @@ pub fn check_files<H: Host>(alloc: Global, host: &mut H) -> Result<(), Status>
     let stated = load_files(alloc, true, host)?;
     let tally = Tally::new(alloc, stated.sites.stations().len())?;
     tell_capture(alloc, &stated.sites, Teller::Counting(tally), host)?;
+    Ok(())
+}
+
+/// Replays a drill of this seed, so many stations and seconds, and writes its summary. It reads
+/// nothing of the host.
+pub fn show_drill<R: Threads + Wait + Sync, H: Host, G: Gate + Sync>(
+    rt: &R,
+    alloc: Global,
+    seed: u64,
+    stations: u16,
+    seconds: u16,
+    host: &mut H,
+    gate: &G,
+) -> Result<(), Status>
+    requires size { IsDrillSize stations seconds }
+    ensures done { OnOk result (HasEnded (drill seed stations seconds) Status.Done
+        (H.told host.old) (H.told host.new)) }
+    ensures ended { IfErr result (λ status. HasEnded (drill seed stations seconds) status
+        (H.told host.old) (H.told host.new)) }
+{
+    let summary = drill_summary(rt, alloc, seed, stations, seconds, gate)?;
+    put_all(host, To::Out, summary.as_slice())?;
     Ok(())
 }

@@ -32,7 +32,7 @@ above most word r e fits number parses err =
       ]
     ]
 
-pub returns-in_default-2 : goal.returns-in_default-2
-returns-in_default-2 c =
+pub returns-in_default-2-clause-value : goal.returns-in_default-2-clause-value
+returns-in_default-2-clause-value c =
     above c.args.most c.args.word.now c.parse.result _ c.ranges.most.fits
     (sym c.is_number.ensures ∙ c.if-not-is_number.false) c.parse.ensures.value.0 c.in_default.is

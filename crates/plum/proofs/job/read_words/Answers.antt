@@ -20,3 +20,9 @@ returns-in_err-job-in-Some-Check-clause-err c =
     let job = job_of (map string_bytes c.args.words.now) in
     any_err (is_some job ≡ true) c.from_residual-in_err-job-in-Some-Check.result
     (asked_some job c.in-Some-Check.field-0 (sym c.command_of.ensures ∙ c.in-Some-Check.is))
+
+pub returns-in_err-job-in-Some-Drill-clause-err : goal.returns-in_err-job-in-Some-Drill-clause-err
+returns-in_err-job-in-Some-Drill-clause-err c =
+    let job = job_of (map string_bytes c.args.words.now) in
+    any_err (is_some job ≡ true) c.from_residual-in_err-job-in-Some-Drill.result
+    (asked_some job c.in-Some-Drill.field-0 (sym c.command_of.ensures ∙ c.in-Some-Drill.is))

@@ -4,7 +4,7 @@ use Rattle.plum_base.specs.Sites.{IsFoundAt}
 use Rattle.plum.specs.declared.teller.Teller.TheVariants.{Watching}
 use Rattle.plum.specs.Job.{Job, IsStation}
 use Rattle.plum.specs.Telling.{HasToldNothing, IsTellerOf}
-use Rattle.plum.proofs.Commands.{found_at, station_uses_none, watches_for}
+use Rattle.plum.proofs.Commands.{found_at, station_uses_files, station_uses_none, watches_for}
 use Rattle.plum.proofs.Endings.{ends_behind_the_files}
 use Rattle.plum.proofs.PlainEnds.{ends_in_the_telling, ends_told, station_is_plain}
 use Rattle.plum.proofs.Turns.{comes_to_capture}
@@ -16,7 +16,8 @@ pub returns-in_err-stated-clause-ended : goal.returns-in_err-stated-clause-ended
 returns-in_err-stated-clause-ended g c =
     let p = err_from_is_err_and c.from_residual.result c.from_residual.ensures.1 in
     rw (p.1, p.2) (λ job is.
-    c.in_err-stated.ensures.ended job (station_uses_none c.args.code job is))
+    c.in_err-stated.ensures.ended job (station_uses_files c.args.code job is)
+    (station_uses_none c.args.code job is))
 
 pub returns-in_err-watch-clause-ended : goal.returns-in_err-watch-clause-ended
 returns-in_err-watch-clause-ended g c =
@@ -25,9 +26,10 @@ returns-in_err-watch-clause-ended g c =
     let first = g.H.Host.told c.args.host.now in
     let stated = c.in_ok-stated.stated in
     rw (p.1, p.2) (λ job is.
-    let read = c.in_ok-stated.ensures.read job (station_uses_none c.args.code job is) in
+    let read = c.in_ok-stated.ensures.read job (station_uses_files c.args.code job is)
+    (station_uses_none c.args.code job is) in
     ends_behind_the_files job first (g.H.Host.told c.load_files.new.host)
-    (comes_to_capture job first stated.setup stated.sites read.stated) read.at_turn read.unused)
+    (station_uses_files c.args.code job is) (comes_to_capture job first stated.setup stated.sites read.stated) read.at_turn read.unused)
 
 -- the watch is that of the station of this code
 watches : (g : given.Over) (c : In_ok-watch g) (job : Job) → IsStation c.args.code job
@@ -56,7 +58,8 @@ returns-in_err-tell_capture-clause-ended g c =
     rw (p.1, p.2) (λ job is.
     ends_in_the_telling job (station_is_plain c.args.code job is) stated.setup stated.sites
     (at c.args.host.now) (at c.load_files.new.host) (at c.tell_capture.new.host)
-    (c.in_ok-stated.ensures.read job (station_uses_none c.args.code job is)) _ (record {
+    (c.in_ok-stated.ensures.read job (station_uses_files c.args.code job is)
+    (station_uses_none c.args.code job is)) _ (record {
       read = λ same. e.read (ap (λ f. Err f) same);
       limit = λ same. e.limit (ap (λ f. Err f) same);
       begun = e.begun job stated.setup (watches g watched job is) (tells_nothing g watched);
@@ -73,6 +76,7 @@ returns-clause-done g c = λ job is.
     let e = c.in_ok-tell_capture.ensures in
     ends_told job (station_is_plain c.args.code job is) stated.setup stated.sites
     (at c.args.host.now) (at c.load_files.new.host) (at c.tell_capture.new.host)
-    (c.in_ok-stated.ensures.read job (station_uses_none c.args.code job is))
+    (c.in_ok-stated.ensures.read job (station_uses_files c.args.code job is)
+    (station_uses_none c.args.code job is))
     (e.text job stated.setup (watches g watched job is) (tells_nothing g watched)) e.no_fault
     c.tell_capture.ensures.other_inputs
