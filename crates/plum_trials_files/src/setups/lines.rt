@@ -59,8 +59,6 @@ const COEFFICIENTS: [(Field, &str); 5] = [
     (Field::A2, "a2"),
 ];
 
-const GREATEST_COEFFICIENT: i64 = 1_073_741_824;
-
 /// Lines outside of the stages.
 fn add_lines(lines: &mut Vec<Line>, more: &[(Field, &'static str, At)]) -> Result<(), AllocError> {
     for (field, name, at) in more {
@@ -87,7 +85,7 @@ fn add_stage(lines: &mut Vec<Line>, number: u8) -> Result<(), AllocError> {
         lines.push(Line {
             key: SetupKey::of_stage(*field, number),
             name: *name,
-            at: At::Number(value, -GREATEST_COEFFICIENT, GREATEST_COEFFICIENT),
+            at: At::Number(value, -1_073_741_824, 1_073_741_824),
         })?;
     }
     lines.push(Line {
