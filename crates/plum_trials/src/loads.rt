@@ -1,24 +1,11 @@
 //! Inputs loaded over a host in memory whose second read fails.
 
-use crate::records::{files_of, four_marks};
-use plum_base::{Bytes, NoMemory};
-use plum_host::{Host, In, LoadFault, MemHost, load};
+use crate::records::four_marks;
+use plum_host::{Host, In, LoadFault, load};
+use plum_trials_given::host_of;
 use std::alloc::Global;
 use std::process::Abort;
 use std::test::Fail;
-
-/// A host with this capture that moves four bytes a call at most, and whose second read fails.
-fn failing_host(alloc: Global, capture: Bytes) -> Result<MemHost, NoMemory> {
-    let mut bad_reads = Vec::new(alloc);
-    bad_reads.push(2)?;
-    MemHost::failing(
-        alloc,
-        files_of(alloc, capture)?,
-        4,
-        bad_reads,
-        Vec::new(alloc),
-    )
-}
 
 /// The read that fails ends the first call, and the second one gives what is left.
 fn expect_rest<H: Host>(rt: &impl Abort, alloc: Global, host: &mut H) {
@@ -29,11 +16,11 @@ fn expect_rest<H: Host>(rt: &impl Abort, alloc: Global, host: &mut H) {
     }
 }
 
-/// Four marks are loaded, four bytes a read.
+/// Four marks are loaded, four bytes a read at most.
 #[test]
 fn second_read_fails(rt: HostRuntime) -> Result<(), Fail> {
     let alloc = rt.alloc();
-    let mut host = failing_host(alloc, four_marks(alloc)?)?;
+    let mut host = host_of(alloc, four_marks(alloc)?, 4, &[2], &[])?;
     expect_rest(&rt, alloc, &mut host);
     Ok(())
 }

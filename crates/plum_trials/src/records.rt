@@ -1,24 +1,14 @@
 //! A reader of records over a host in memory.
 
 use plum_base::{Bytes, NoMemory};
-use plum_host::{Host, MemFiles, MemHost};
+use plum_host::{Host, MemHost};
 use plum_packet::{Body, Records, RecordsFault};
+use plum_trials_given::files_of;
 use std::alloc::Global;
 use std::process::Abort;
 use std::test::Fail;
 
-/// This capture, and no other input.
-pub fn files_of(alloc: Global, capture: Bytes) -> Result<MemFiles, NoMemory> {
-    Ok(MemFiles {
-        setup: Bytes::new(alloc)?,
-        stations: Bytes::new(alloc)?,
-        targets: Bytes::new(alloc)?,
-        capture,
-        journal: Bytes::new(alloc)?,
-        output: Bytes::new(alloc)?,
-    })
-}
-
+/// The records of four marks.
 pub fn four_marks(alloc: Global) -> Result<Bytes, NoMemory> {
     let mut capture = Bytes::new(alloc)?;
     for _ in 0..4 {

@@ -3,16 +3,16 @@
 
 mod filter;
 
-use crate::setup::{GAIN, PASS_THROUGH, equal_samples, setup_of};
 use plum_base::{Gain, Rounding, Sample, Stage, Tenths};
 use plum_engine::Engine;
+use plum_trials_given::{GAIN, PASS_THROUGH, equal_samples, setup_with};
 use std::alloc::Global;
 use std::test::Fail;
 
 #[test]
 fn greatest_amplitude(rt: HostRuntime) -> Result<(), Fail> {
     let gain = Gain { g: 1 << 31, h: 0 };
-    let setup = setup_of(PASS_THROUGH, gain, &[0, 3 << 60], 1, 16)?;
+    let setup = setup_with(PASS_THROUGH, gain, &[0, 3 << 60], 1, 16)?;
     let mut engine = Engine::new(rt.alloc(), &setup)?;
     let sample = Sample {
         x: i32::MIN,
@@ -33,7 +33,7 @@ fn value_of_halves(alloc: Global, round: Rounding) -> Result<Option<Tenths>, Fai
         round,
         ..Stage::default()
     };
-    let setup = setup_of(stage, GAIN, &[0, 1], 1, 16)?;
+    let setup = setup_with(stage, GAIN, &[0, 1], 1, 16)?;
     let mut engine = Engine::new(alloc, &setup)?;
     let wave = equal_samples(alloc, 30, Sample { x: -1, y: 0, z: 0 })?;
     Ok(engine.absorb(true, &wave))

@@ -10,6 +10,4 @@ mod engine;
 #[cfg(test)]
 mod machine;
 #[cfg(test)]
-mod setup;
-#[cfg(test)]
 mod squares;

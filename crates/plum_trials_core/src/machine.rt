@@ -3,68 +3,18 @@
 ghost use Rattle.std.specs.Prelude.{◌≤◌};
 ghost use Rattle.plum_base.specs.declared.wave.TheConstants.Wave.{MAX};
 
-use crate::setup::{GAIN, PASS_THROUGH, THRESHOLDS, equal_samples, setup_of};
-use plum_base::{
-    AreaNo, Key, LaneNo, Name, Packet, Point, Sample, Setup, Sites, StationNo, StationSite,
-    TargetSite, Tenths, lawful,
-};
+use plum_base::{AreaNo, LaneNo, NoMemory, Setup, Sites};
 use plum_core::{Event, play};
+use plum_trials_given::{packet_of, setup_of, sites_of};
 use std::alloc::Global;
 use std::process::Abort;
 use std::test::Fail;
 
-/// Stations at these y, in metres, their codes from 0.
-fn stations_at(alloc: Global, places: &[i32]) -> Result<Vec<StationSite>, Fail> {
-    let mut stations = Vec::new(alloc);
-    for (code, y) in places.iter().enumerate() {
-        stations.push(StationSite {
-            code: u16::try_from(code).ok().ok_or("a code")?,
-            at: Point { x: 0, y: *y },
-            factor: Tenths(0),
-        })?;
-    }
-    Ok(stations)
-}
-
-fn name_of(text: &str) -> Result<Name, Fail> {
-    Ok(Name::read(text.as_bytes()).ok_or("a name")?)
-}
-
-/// Targets of these names, in the areas of these names and at these y, in metres.
-fn targets_at(alloc: Global, places: &[(&str, &str, i32)]) -> Result<Vec<TargetSite>, Fail> {
-    let mut targets = Vec::new(alloc);
-    for (name, area, y) in places {
-        targets.push(TargetSite {
-            name: name_of(name)?,
-            area: name_of(area)?,
-            at: Point { x: 0, y: *y },
-            factor: Tenths(0),
-        })?;
-    }
-    Ok(targets)
-}
-
-fn sites_of(
-    rt: &impl Abort,
-    alloc: Global,
-    stations: &[i32],
-    targets: &[(&str, &str, i32)],
-) -> Result<Sites, Fail> {
-    let stations = stations_at(alloc, stations)?;
-    let targets = targets_at(alloc, targets)?;
-    assert!(rt; lawful(stations.as_slice(), targets.as_slice()));
-    Ok(Sites::new(alloc, stations, targets)?)
-}
-
-/// A packet of a station: boot 0, this number, and equal samples along x.
-fn take(alloc: Global, station: u16, number: u32, count: u16, x: i32) -> Result<Event, Fail>
+/// A station takes a packet of this number, with so many equal samples along x.
+fn take(alloc: Global, station: u16, number: u32, count: u16, x: i32) -> Result<Event, NoMemory>
     requires { count ≤ MAX }
 {
-    Ok(Event::Take(Packet {
-        station: StationNo(station),
-        key: Key { boot: 0, number },
-        wave: equal_samples(alloc, count, Sample { x, y: 0, z: 0 })?,
-    }))
+    Ok(Event::Take(packet_of(alloc, station, number, count, x)?))
 }
 
 /// Plays the events, and compares each reply with its text.
@@ -93,8 +43,8 @@ fn expect_replies(
 #[test]
 fn machine_with_a_queue_of_one(rt: HostRuntime) -> Result<(), Fail> {
     let alloc = rt.alloc();
-    let setup = setup_of(PASS_THROUGH, GAIN, &THRESHOLDS, 1, 1)?;
-    let sites = sites_of(&rt, alloc, &[0], &[("t1", "a", 0)])?;
+    let setup = setup_of(1, 1)?;
+    let sites = sites_of(alloc, 1, 0, &[("t1", "a", 0)])?;
     let events = vec![in alloc;
         take(alloc, 0, 0, 30, 10)?,
         Event::Offer(LaneNo(0)),
@@ -129,9 +79,9 @@ fn machine_with_a_queue_of_one(rt: HostRuntime) -> Result<(), Fail> {
 #[test]
 fn lanes_and_areas(rt: HostRuntime) -> Result<(), Fail> {
     let alloc = rt.alloc();
-    let setup = setup_of(PASS_THROUGH, GAIN, &THRESHOLDS, 2, 1)?;
+    let setup = setup_of(2, 1)?;
     let targets = [("t1", "a", 0), ("t2", "b", 40_000), ("t3", "a", 20_000)];
-    let sites = sites_of(&rt, alloc, &[0, 40_000], &targets)?;
+    let sites = sites_of(alloc, 2, 40_000, &targets)?;
     let events = vec![in alloc;
         Event::Offer(LaneNo(1)),
         take(alloc, 1, 7, 30, 20)?,

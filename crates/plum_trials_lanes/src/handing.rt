@@ -4,13 +4,15 @@ ghost use Rattle.std.specs.Prelude.{◌≤◌, IfOk};
 ghost use Rattle.plum_base.specs.Setup.{IsLaneCount, IsQueueBound};
 ghost use Rattle.plum_trials_lanes.specs.AtWork.{IsOpen, IsSomeLane, StaysAtWork};
 
-use crate::given::{MOST_LANES, setup_of, sites_of};
-use plum_base::{Entry, Offered, Packet, Took};
+use plum_base::{Entry, LANES, Offered, Packet, Took};
 use plum_lanes::{Gather, Lane, close_round, open};
+use plum_trials_given::{setup_of, sites_of};
 use std::alloc::Global;
-use std::process::Abort;
 use std::sync::Wait;
 use std::test::Fail;
+
+/// The most lanes of a setup.
+pub const MOST_LANES: usize = LANES.high as usize;
 
 /// The lanes of a queue of so many stations, and its gatherer.
 #[derive(Drop)]
@@ -58,19 +60,13 @@ pub fn offer<R: Wait>(
 
 impl Opened {
     /// So many stations, in so many lanes, with a queue of so many entries.
-    pub fn new(
-        rt: &impl Abort,
-        alloc: Global,
-        stations: u16,
-        lanes: u16,
-        queue: u32,
-    ) -> Result<Opened, Fail>
+    pub fn new(alloc: Global, stations: u16, lanes: u16, queue: u32) -> Result<Opened, Fail>
         requires lanes { IsLaneCount lanes }
         requires queue { IsQueueBound queue }
         ensures { IfOk result (λ o. IsOpen o.stations o.lanes.items o.gather) }
     {
         let setup = setup_of(lanes, queue)?;
-        let sites = sites_of(rt, alloc, stations)?;
+        let sites = sites_of(alloc, stations, 0, &[("t1", "a", 0)])?;
         let (lanes, gather) = open(alloc, &sites, &setup)?;
         Ok(Opened {
             stations,

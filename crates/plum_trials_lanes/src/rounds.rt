@@ -5,12 +5,12 @@ ghost use Rattle.plum_lanes.specs.Gathering.{IsGather};
 ghost use Rattle.plum_lanes.specs.Opening.{Opening};
 ghost use Rattle.plum_trials_lanes.specs.AtWork.{IsOpen, IsSomeLane, StaysAtWork, StaysGather};
 ghost use Rattle.plum_trials_lanes.specs.AtWork.{AreSomeLanes, StayAtWork};
-ghost use Rattle.plum_trials_lanes.specs.declared.given.TheConstants.{MOST_LANES};
+ghost use Rattle.plum_trials_lanes.specs.declared.handing.TheConstants.{MOST_LANES};
 
-use crate::given::{MOST_LANES, packet_of};
-use crate::handing::{Opened, offer, take};
+use crate::handing::{MOST_LANES, Opened, offer, take};
 use plum_base::{Entry, Offered};
 use plum_lanes::{Gather, Lane};
+use plum_trials_given::packet_of;
 use std::alloc::Global;
 use std::sync::Wait;
 use std::sync::atomic::{AtomicU64, Ordering};
@@ -223,7 +223,7 @@ impl Opened {
 #[test]
 fn four_lanes_on_threads(rt: HostRuntime) -> Result<(), Fail> {
     for _ in 0..50 {
-        let mut opened = Opened::new(&rt, rt.alloc(), 8, 4, 1)?;
+        let mut opened = Opened::new(rt.alloc(), 8, 4, 1)?;
         let mut seen = Seen::new();
         opened.round(&rt, rt.alloc(), &mut seen, 0, 2000)?;
         assert!(rt; opened.next(&rt).is_none());
@@ -234,7 +234,7 @@ fn four_lanes_on_threads(rt: HostRuntime) -> Result<(), Fail> {
 
 #[test]
 fn two_rounds_on_threads(rt: HostRuntime) -> Result<(), Fail> {
-    let mut opened = Opened::new(&rt, rt.alloc(), 6, 3, 2)?;
+    let mut opened = Opened::new(rt.alloc(), 6, 3, 2)?;
     let mut seen = Seen::new();
     opened.round(&rt, rt.alloc(), &mut seen, 0, 100)?;
     assert!(rt; seen.is_whole(6, 100));

@@ -2,16 +2,16 @@
 
 ghost use Rattle.plum_trials_lanes.specs.AtWork.{IsOpen};
 
-use crate::given::packet_of;
 use crate::handing::Opened;
 use plum_base::{Key, Offered, Tenths, Took};
+use plum_trials_given::packet_of;
 use std::alloc::Global;
 use std::sync::Wait;
 use std::test::Fail;
 
 #[test]
 fn repeated_packet(rt: HostRuntime) -> Result<(), Fail> {
-    let mut opened = Opened::new(&rt, rt.alloc(), 1, 1, 16)?;
+    let mut opened = Opened::new(rt.alloc(), 1, 1, 16)?;
     let took = opened.take(0, packet_of(rt.alloc(), 0, 0, 30, 10)?)?;
     assert_eq!(rt; took, Took::Ready);
     assert_eq!(rt; opened.offer(&rt, 0)?, Offered::Sent);
@@ -26,7 +26,7 @@ fn repeated_packet(rt: HostRuntime) -> Result<(), Fail> {
 
 #[test]
 fn lanes_with_a_queue_of_one(rt: HostRuntime) -> Result<(), Fail> {
-    let mut opened = Opened::new(&rt, rt.alloc(), 1, 1, 1)?;
+    let mut opened = Opened::new(rt.alloc(), 1, 1, 1)?;
     let took = opened.take(0, packet_of(rt.alloc(), 0, 0, 30, 10)?)?;
     assert_eq!(rt; took, Took::Ready);
     assert_eq!(rt; opened.offer(&rt, 0)?, Offered::Sent);
@@ -74,7 +74,7 @@ fn comes(opened: &mut Opened, rt: &impl Wait, station: u16, n: u32) -> bool
 #[test]
 fn two_rounds_of_three_lanes(rt: HostRuntime) -> Result<(), Fail> {
     let alloc = rt.alloc();
-    let mut opened = Opened::new(&rt, alloc, 3, 3, 2)?;
+    let mut opened = Opened::new(alloc, 3, 3, 2)?;
     for n in 0..2 {
         assert_eq!(rt; send(&mut opened, &rt, alloc, 2, n)?, Offered::Sent);
         assert_eq!(rt; send(&mut opened, &rt, alloc, 0, n)?, Offered::Sent);

@@ -10,8 +10,6 @@ mod captures;
 #[cfg(test)]
 mod gates;
 #[cfg(test)]
-mod given;
-#[cfg(test)]
 mod lines;
 #[cfg(test)]
 mod meeting;

@@ -4,12 +4,12 @@ ghost use Rattle.plum_base.specs.Setup.{IsLaneCount, IsQueueBound};
 
 use crate::captures::{fifty_of_each, mark_between, three_segments, two_behind_a_mark};
 use crate::gates::{Meeting, Within};
-use crate::given::{host_of, setup_of, sites_of};
 use crate::lines::{FIFTY_OF_EACH, MARK_BETWEEN_TWO, TWO_BEHIND_A_MARK};
-use crate::replaying::replay_once;
+use crate::replaying::{replay_once, stations_in_one_place};
 use plum_base::Bytes;
 use plum_host::{MemHost, To};
 use plum_replay::{Gate, OpenGate};
+use plum_trials_given::{host_of, setup_of};
 use std::alloc::Global;
 use std::process::Abort;
 use std::sync::Wait;
@@ -32,8 +32,8 @@ fn replayed<R: Threads + Wait + Abort + Sync, G: Gate + Sync>(
     requires queue { IsQueueBound queue }
 {
     let setup = setup_of(lanes, queue)?;
-    let sites = sites_of(rt, alloc, lanes)?;
-    let mut host = host_of(alloc, capture, STEP)?;
+    let sites = stations_in_one_place(alloc, lanes)?;
+    let mut host = host_of(alloc, capture, STEP, &[], &[])?;
     let ended = replay_once(rt, alloc, &sites, &setup, &mut host, gate)?;
     assert_eq!(rt; ended.fault, None);
     Ok(host)

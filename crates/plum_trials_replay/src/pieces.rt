@@ -1,10 +1,11 @@
 //! The pieces of a replay, and the calls that fail.
 
 use crate::captures::four_segments;
-use crate::given::{setup_of, sites_of};
 use crate::noting::NotingHost;
-use crate::replaying::replay_once;
+use crate::replaying::{replay_once, stations_in_one_place};
+use plum_base::NoMemory;
 use plum_replay::{OpenGate, ReplayFault};
+use plum_trials_given::{host_of, setup_of};
 use std::alloc::Global;
 use std::process::Abort;
 use std::sync::Wait;
@@ -58,6 +59,14 @@ fn begins_calls(notes: &[u8]) -> bool {
             .all(|(note, call)| note == call || *call == b'?')
 }
 
+/// A host with that capture, which moves whole pieces. The read and the write of these numbers fail,
+/// each counted from 1: none of number 0.
+fn failing_at(alloc: Global, read: u32, write: u32) -> Result<NotingHost, NoMemory> {
+    let capture = four_segments(alloc)?;
+    let host = host_of(alloc, capture, 65_536, &[read], &[write])?;
+    NotingHost::new(alloc, host)
+}
+
 /// Replays the capture, and tells the fault that ended it.
 fn fault_over<R: Threads + Wait + Abort + Sync>(
     rt: &R,
@@ -65,7 +74,7 @@ fn fault_over<R: Threads + Wait + Abort + Sync>(
     host: &mut NotingHost,
 ) -> Result<Option<ReplayFault>, Fail> {
     let setup = setup_of(1, 16)?;
-    let sites = sites_of(rt, alloc, 1)?;
+    let sites = stations_in_one_place(alloc, 1)?;
     Ok(replay_once(rt, alloc, &sites, &setup, host, &OpenGate)?.fault)
 }
 
@@ -77,8 +86,7 @@ fn expect_all_calls<R: Threads + Wait + Abort + Sync>(
     failing_read: u32,
     failing_write: u32,
 ) -> Result<u32, Fail> {
-    let capture = four_segments(alloc)?;
-    let mut host = NotingHost::new(alloc, capture.as_slice(), failing_read, failing_write)?;
+    let mut host = failing_at(alloc, failing_read, failing_write)?;
     assert_eq!(rt; fault_over(rt, alloc, &mut host)?, None);
     assert_eq!(rt; host.notes().len(), CALLS.len());
     assert!(rt; begins_calls(host.notes()), "other calls");
@@ -91,8 +99,7 @@ fn expect_write_fault<R: Threads + Wait + Abort + Sync>(
     alloc: Global,
     write: u32,
 ) -> Result<(), Fail> {
-    let capture = four_segments(alloc)?;
-    let mut host = NotingHost::new(alloc, capture.as_slice(), 0, write)?;
+    let mut host = failing_at(alloc, 0, write)?;
     assert_eq!(rt; fault_over(rt, alloc, &mut host)?, Some(ReplayFault::Write));
     assert_eq!(rt; host.writes(), write);
     assert!(rt; begins_calls(host.notes()), "at {write}");
@@ -105,8 +112,7 @@ fn expect_read_fault<R: Threads + Wait + Abort + Sync>(
     alloc: Global,
     read: u32,
 ) -> Result<(), Fail> {
-    let capture = four_segments(alloc)?;
-    let mut host = NotingHost::new(alloc, capture.as_slice(), read, 0)?;
+    let mut host = failing_at(alloc, read, 0)?;
     assert_eq!(rt; fault_over(rt, alloc, &mut host)?, Some(ReplayFault::Read));
     assert_eq!(rt; host.reads(), read);
     assert!(rt; begins_calls(host.notes()), "at {read}");

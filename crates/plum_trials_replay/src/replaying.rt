@@ -5,10 +5,16 @@ use plum_centre::Centre;
 use plum_host::Host;
 use plum_replay::{Gate, ReplayFault, replay};
 use plum_snap::{Doors, Session};
+use plum_trials_given::sites_of;
 use std::alloc::Global;
 use std::sync::Wait;
 use std::test::Fail;
 use std::thread::Threads;
+
+/// So many stations, and a target `t1` in the area `a`, all in one place.
+pub fn stations_in_one_place(alloc: Global, count: u16) -> Result<Sites, Fail> {
+    sites_of(alloc, count, 0, &[("t1", "a", 0)])
+}
 
 /// The front of a reading, and its first answer.
 pub type Seen = (u64, Option<Tenths>);

@@ -1,12 +1,12 @@
 //! Worked rows over hosts that move 1, 7 and 65,536 bytes a call.
 
 use crate::captures::{every_fault, mark_between, tail_of_twelve, thirty_samples};
-use crate::given::{host_of, setup_of, sites_of};
 use crate::lines::{EVERY_FAULT, MARK_BETWEEN, TAIL_OF_TWELVE, THIRTY_SAMPLES, Texts};
-use crate::replaying::{Seen, replay_once};
+use crate::replaying::{Seen, replay_once, stations_in_one_place};
 use plum_base::{Bytes, Tenths};
 use plum_host::{MemHost, To};
 use plum_replay::OpenGate;
+use plum_trials_given::{host_of, setup_of};
 use std::alloc::Global;
 use std::process::Abort;
 use std::sync::Wait;
@@ -34,8 +34,8 @@ fn expect_replay<R: Threads + Wait + Abort + Sync>(
 ) -> Result<Option<Seen>, Fail> {
     assert!(rt; step > 0);
     let setup = setup_of(1, 16)?;
-    let sites = sites_of(rt, alloc, 1)?;
-    let mut host = host_of(alloc, capture, step)?;
+    let sites = stations_in_one_place(alloc, 1)?;
+    let mut host = host_of(alloc, capture, step, &[], &[])?;
     let ended = replay_once(rt, alloc, &sites, &setup, &mut host, &OpenGate)?;
     assert_eq!(rt; ended.fault, None);
     expect_texts(rt, &host, texts)?;

@@ -5,7 +5,7 @@
 #![tactic(auto)]
 
 #[cfg(test)]
-mod given;
+mod entries;
 #[cfg(test)]
 mod sessions;
 #[cfg(test)]

@@ -3,9 +3,10 @@
 ghost use Rattle.std.specs.Prelude.{◌≡◌, ◌<◌, ◌≤◌, ◌+◌, ◌^◌, [], length, IfSome};
 ghost use mathlib.Core.List.{IsPrefix};
 
-use crate::given::{entry_of, sites_of};
+use crate::entries::entry_of;
 use plum_base::{NoMemory, Sites, Tenths};
 use plum_snap::{Doors, Publisher, Session, open};
+use plum_trials_given::sites_of;
 use std::alloc::Global;
 use std::sync::Wait;
 use std::test::*;
@@ -101,7 +102,7 @@ fn published<R: Wait>(
 #[test]
 fn session_sees_what_is_published(rt: HostRuntime) -> Result<(), Fail> {
     let alloc = rt.alloc();
-    let sites = sites_of(&rt, alloc, 1, &[("t1", "a", 0)])?;
+    let sites = sites_of(alloc, 1, 0, &[("t1", "a", 0)])?;
     let mut doors = Doors::new();
     let (mut publisher, session, _) = opened(&rt, alloc, &sites, &mut doors).ok_or("it opens")?;
     let found = published(&rt, alloc, &mut publisher, session);
@@ -136,7 +137,7 @@ fn learned<R: Wait>(
 #[test]
 fn session_that_learned_three_reads_no_fewer(rt: HostRuntime) -> Result<(), Fail> {
     let alloc = rt.alloc();
-    let sites = sites_of(&rt, alloc, 1, &[("t1", "a", 0)])?;
+    let sites = sites_of(alloc, 1, 0, &[("t1", "a", 0)])?;
     let mut doors = Doors::new();
     let (mut publisher, session, _) = opened(&rt, alloc, &sites, &mut doors).ok_or("it opens")?;
     let found = learned(&rt, alloc, &mut publisher, session);
@@ -174,7 +175,7 @@ fn in_turn<R: Wait>(
 #[test]
 fn two_sessions_see_fronts_of_one_list(rt: HostRuntime) -> Result<(), Fail> {
     let alloc = rt.alloc();
-    let sites = sites_of(&rt, alloc, 1, &[("t1", "a", 0), ("t2", "b", 0)])?;
+    let sites = sites_of(alloc, 1, 0, &[("t1", "a", 0), ("t2", "b", 0)])?;
     let mut doors = Doors::new();
     let (mut publisher, one, other) = opened(&rt, alloc, &sites, &mut doors).ok_or("it opens")?;
     let found = in_turn(&rt, alloc, &mut publisher, one, other);
@@ -204,7 +205,7 @@ fn nothing<R: Wait>(
 #[test]
 fn publishing_nothing(rt: HostRuntime) -> Result<(), Fail> {
     let alloc = rt.alloc();
-    let sites = sites_of(&rt, alloc, 1, &[("t1", "a", 0)])?;
+    let sites = sites_of(alloc, 1, 0, &[("t1", "a", 0)])?;
     let mut doors = Doors::new();
     let (mut publisher, session, _) = opened(&rt, alloc, &sites, &mut doors).ok_or("it opens")?;
     let found = nothing(&rt, &mut publisher, session);
@@ -232,7 +233,7 @@ fn read_once<R: Wait>(
 #[test]
 fn session_is_shut_out_after_the_end(rt: HostRuntime) -> Result<(), Fail> {
     let alloc = rt.alloc();
-    let sites = sites_of(&rt, alloc, 1, &[("t1", "a", 0)])?;
+    let sites = sites_of(alloc, 1, 0, &[("t1", "a", 0)])?;
     let mut doors = Doors::new();
     let (mut publisher, session, _) = opened(&rt, alloc, &sites, &mut doors).ok_or("it opens")?;
     let found = read_once(&rt, alloc, &mut publisher, session);
@@ -246,7 +247,7 @@ fn session_is_shut_out_after_the_end(rt: HostRuntime) -> Result<(), Fail> {
 #[test]
 fn sites_without_an_area(rt: HostRuntime) -> Result<(), Fail> {
     let alloc = rt.alloc();
-    let sites = sites_of(&rt, alloc, 1, &[])?;
+    let sites = sites_of(alloc, 1, 0, &[])?;
     let mut doors = Doors::new();
     let (mut publisher, last, _) = opened(&rt, alloc, &sites, &mut doors).ok_or("it opens")?;
     let appended = append(alloc, &mut publisher, &[21]);

@@ -2,9 +2,10 @@
 
 ghost use Rattle.std.specs.Prelude.{◌≡◌, ◌≤◌, [], length};
 
-use crate::given::{entry_of, sites_of};
+use crate::entries::entry_of;
 use plum_base::{Answers, NoMemory, Tenths};
 use plum_snap::{Doors, Publisher, Session, open};
+use plum_trials_given::sites_of;
 use std::alloc::Global;
 use std::sync::Wait;
 use std::sync::atomic::AtomicBool;
@@ -199,7 +200,7 @@ fn side_by_side<R: Threads + Wait + Sync>(
 #[test]
 fn eight_sessions_read_beside_the_publisher(rt: HostRuntime) -> Result<(), Fail> {
     let alloc = rt.alloc();
-    let sites = sites_of(&rt, alloc, STATIONS, &TARGETS)?;
+    let sites = sites_of(alloc, STATIONS, 5000, &TARGETS)?;
     let mut doors = Doors::new();
     let (mut publisher, sessions) = open(&rt, alloc, &sites, &mut doors).ok().ok_or("it opens")?;
     let found = side_by_side(&rt, alloc, &mut publisher, sessions);

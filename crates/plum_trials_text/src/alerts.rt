@@ -1,16 +1,11 @@
 //! What a desk tells of its area.
 
 use plum_alert::Desk;
-use plum_base::{Alert, Answers, Bytes, Class, Name, Reading, Rules, Tenths};
+use plum_base::{Alert, Answers, Bytes, Class, Name, Reading, Tenths};
 use plum_text::{OutLine, write_out};
+use plum_trials_given::RULES;
 use std::alloc::Global;
 use std::test::Fail;
-
-const RULES: Rules = Rules {
-    raise: Class::C4,
-    cancel: Class::C3,
-    calm: 2,
-};
 
 /// What the desk tells of a reading with this greatest answer.
 fn told(alloc: Global, desk: &mut Desk, greatest: Option<i16>) -> Result<Option<Alert>, Fail> {

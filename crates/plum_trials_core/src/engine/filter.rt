@@ -1,8 +1,8 @@
 //! Worked inputs of a filter.
 
-use crate::setup::cascade_of;
 use plum_base::Stage;
 use plum_filter::Filter;
+use plum_trials_given::cascade_of;
 use std::test::Fail;
 
 /// A stage that adds each input to its last answer, and clamps at the greatest term.

@@ -2,7 +2,7 @@ use Rattle.std.proofs.Common.{sym, ap, ◌∙◌, []}
 use Rattle.plum_trials_lanes.proofs.handing.Opened.new.Goals as goal
 
 pub returns : goal.returns
-returns g c =
+returns c =
     let opening = c.in_ok-lanes.ensures.0 in
     let basis = c.in_ok-lanes.ensures.1 in
     let new = c.in_ok-lanes.ensures.2 in

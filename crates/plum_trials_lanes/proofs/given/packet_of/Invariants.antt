@@ -1,5 +1,0 @@
-use Rattle.std.proofs.Common.{◌≤◌, length}
-use Rattle.plum_trials_lanes.proofs.given.packet_of.Given as goal
-
-abbrev pub invariant-loop : goal.invariant-loop
-invariant-loop l = length l.wave ≤ l.counter
