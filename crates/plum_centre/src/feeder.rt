@@ -2,12 +2,11 @@
 
 ghost use Rattle.std.specs.Prelude.{◌≡◌, ◌∷◌, ◌++◌, ◌<◌, ◌⊎◌, [], true, false, length};
 ghost use Rattle.std.specs.Prelude.{IsErr, OnOk, OnErr, MatchResult};
-ghost use mathlib.Core.List.{IsPrefix};
 ghost use Rattle.plum_lanes.specs.Gathering.{gathered, settled_of, IsGather};
 ghost use Rattle.plum_lanes.specs.Opening.{Opening};
 ghost use Rattle.plum_lanes.specs.Rounds.{AreWhole, ClosesRound};
 ghost use Rattle.plum_base.specs.Note.{note_of};
-ghost use Rattle.plum_snap.specs.Fronts.{MOST_ENTRIES, receipt_of};
+ghost use Rattle.plum_snap.specs.Fronts.{MOST_ENTRIES, ShowsFront, receipt_of};
 ghost use Rattle.plum_centre.specs.Feeder.{new_feeder, IsPublishedGathered};
 ghost use Rattle.plum_centre.specs.Turns.{Feeds, IsRefused, GoesOn};
 ghost use Rattle.plum_centre.specs.Rounds.{StayWhole};
@@ -156,8 +155,7 @@ impl Feeder {
     /// A session has seen no more than is published: a front of it.
     pub fn shows_what_was_seen(&mut self, session: &Session)
         requires { session.now.publisher ≡ self.old.publisher }
-        ensures front { IsPrefix session.now.seen self.old.published }
-        ensures same { self.new ≡ self.old }
+        ensures { ShowsFront self.old.published session.now.seen self.old self.new }
     {
         self.publisher.shows_what_was_seen(session);
     }

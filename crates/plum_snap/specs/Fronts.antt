@@ -1,5 +1,6 @@
 -- Fronts of a publisher's one list (the project's own).
 use Rattle.std.specs.Prelude.{◌≡◌, ℕ, ◌^◌, List, ◌++◌, length, drop}
+use mathlib.Core.List.{IsPrefix}
 use Rattle.logbook.specs.Pages.{Book}
 use Rattle.plum_base.specs.declared.entry.Entry.{Entry}
 
@@ -31,3 +32,8 @@ receipt_of publisher published = record { publisher = publisher; entries = publi
 -- keep it.)
 abbrev pub Extends : List Entry → List Entry → Type 0
 Extends earlier later = later ≡ earlier ++ drop (length earlier) later
+
+-- Who has published a list shows that these entries are a front of it, and stays as it was.
+pub record ShowsFront {A : Type 0} (published entries : List Entry) (before after : A) : Type 0 where
+  pub front : IsPrefix entries published
+  pub same : after ≡ before

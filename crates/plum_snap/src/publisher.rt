@@ -3,7 +3,7 @@
 ghost use Rattle.std.specs.Prelude.{◌≡◌, ◌+◌, ◌<◌, ◌++◌, ◌∷◌, [], length, drop, true, false};
 ghost use Rattle.std.specs.Prelude.{IsErr, OnOk, OnErr};
 ghost use mathlib.Core.List.{IsPrefix};
-ghost use Rattle.plum_snap.specs.Fronts.{MOST_ENTRIES, receipt_of};
+ghost use Rattle.plum_snap.specs.Fronts.{MOST_ENTRIES, ShowsFront, receipt_of};
 ghost use Rattle.plum_snap.specs.History.{head_of};
 ghost use Rattle.plum_snap.specs.Snapshots.{IsRight};
 
@@ -136,8 +136,7 @@ impl Publisher {
     /// Each receipt of it is of a front of what is published.
     pub fn shows_receipt(&mut self, receipt: &Receipt)
         requires { receipt.now.publisher ≡ self.old.publisher }
-        ensures front { IsPrefix receipt.now.entries self.old.published }
-        ensures same { self.new ≡ self.old }
+        ensures { ShowsFront self.old.published receipt.now.entries self.old self.new }
     {
         self.limit.covers(receipt.marks());
         receipt
@@ -148,8 +147,7 @@ impl Publisher {
     /// A session has seen no more than is published: a front of it.
     pub fn shows_what_was_seen(&mut self, session: &Session)
         requires { session.now.publisher ≡ self.old.publisher }
-        ensures front { IsPrefix session.now.seen self.old.published }
-        ensures same { self.new ≡ self.old }
+        ensures { ShowsFront self.old.published session.now.seen self.old self.new }
     {
         self.shows_receipt(session.seen());
     }

@@ -3,8 +3,8 @@ use mathlib.Core.List.{IsPrefix}
 use Rattle.plum_snap.proofs.Fronts.{prefix_of_longer}
 use Rattle.plum_snap.proofs.publisher.Publisher.shows_receipt.Goals as goal
 
-pub returns-clause-front : goal.returns-clause-front
-returns-clause-front c =
+pub returns : goal.returns
+returns c =
     let receipt = c.args.receipt.now.entries in
     let shown = c.self.inside.writer.desk.shown.value.front.entries in
     let one : IsPrefix receipt shown ⊎ IsPrefix shown receipt =
@@ -12,4 +12,7 @@ returns-clause-front c =
     at c.are_of_one_list.ensures in
     let short : length receipt ≤ length shown =
     omega (arith, c.marks.ensures.limit, c.covers.ensures.limit, c.self.invariant.3) in
-    rw (← c.self.view_is) (prefix_of_longer receipt shown one short)
+    record {
+      front = rw (← c.self.view_is) (prefix_of_longer receipt shown one short);
+      same = rw c.covers.ensures.same c.self.view_is;
+    }
