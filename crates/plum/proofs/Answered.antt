@@ -23,9 +23,11 @@ pub nth_of : (area : List ℕ) (targets : List TargetSite) (i : ℕ) (t : Target
 nth_of area [] i t is here = cc
 nth_of area (x ∷ xs) zero t is here =
     let same : x ≡ t = cc in
-    first (bytes_eq x.area area) (subst (λ (u : TargetSite). bytes_eq u.area area ≡ true) (sym same) here)
+    first (bytes_eq x.area area) (subst (λ (u : TargetSite). bytes_eq u.area area ≡ true)
+    (sym same) here)
   where
-    first : (b : Bool) → b ≡ true → slice_get (cond b (x ∷ targets_of area xs) (targets_of area xs)) 0
+    first : (b : Bool) → b ≡ true → slice_get (cond b (x ∷ targets_of area xs)
+        (targets_of area xs)) 0
         ≡ Some t
     first true e = cc
     first false e = cc

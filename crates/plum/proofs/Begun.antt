@@ -261,7 +261,8 @@ module _ (laws : TextLaws) (stations : List StationSite) (distinct : AreCodesDis
           → AppendsPlainBegun job setup stations capture before read
       begun_between of = (
         so_far.text,
-        text_begins old job setup capture was.given so_far.text reader (now.left Capture) of was.told
+        text_begins old job setup capture was.given so_far.text reader
+            (now.left Capture) of was.told
             so_far.told,
         subst (λ held. Appends (before.held Out) held so_far.text) (sym same) so_far.appended,
       )

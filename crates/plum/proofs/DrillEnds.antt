@@ -17,7 +17,8 @@ use Rattle.plum.proofs.Endings.{broke_off_quietly, nothing_appended}
 
 module _ (seed stations seconds : ℕ) where
   -- memory is short before anything is written
-  pub ends_unwritten : (host : HostView) → HasEnded (drill seed stations seconds) ends.NoMemory host host
+  pub ends_unwritten : (host : HostView) → HasEnded
+      (drill seed stations seconds) ends.NoMemory host host
   ends_unwritten host = record {
     cause = tt;
     counts = record { reads = refl; writes = refl };

@@ -149,7 +149,8 @@ caused_at (drill seed stations seconds) status before after files at = absurd cc
 
 -- the work ends at a file
 pub ends_at_a_file : (job : Job) (status : Status) (file : In) (before now after : HostView)
-    → IsFile file → uses_files job ≡ true → uses job file ≡ true → ComesTo job file before → IsAtTurn file before now
+    → IsFile file → uses_files job ≡ true → uses job file ≡ true → ComesTo job file before
+    → IsAtTurn file before now
     → OnlyReads file now after → IsCause status file now after → CountsEnd status now after
     → HasEnded job status before after
 ends_at_a_file job status file before now after turn files used comes so_far frame cause counts =
@@ -174,7 +175,8 @@ ends_at_a_file job status file before now after turn files used comes so_far fra
 
 -- memory is short behind the files
 pub ends_behind_the_files : (job : Job) (before now : HostView) → uses_files job ≡ true
-    → ComesTo job inputs.Capture before → IsAtTurn inputs.Capture before now → LeavesUnused job before now
+    → ComesTo job inputs.Capture before → IsAtTurn inputs.Capture before now
+    → LeavesUnused job before now
     → HasEnded job ends.NoMemory before now
 ends_behind_the_files job before now files comes so_far unused =
     record {

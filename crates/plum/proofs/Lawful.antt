@@ -19,7 +19,8 @@ all_in_range : {X : Type 0} (P : X → Type 0) (f : ℕ → X) (n : ℕ) → ((i
     → All P (map f (range_with_len 0 n))
 all_in_range P f n each = λ k d within.
     let long = length-map-range_with_len f 0 n in
-    subst P (sym (get_or-map-range_with_len f 0 n k k d (omega arith) (omega arith))) (each k (omega arith))
+    subst P (sym (get_or-map-range_with_len f 0 n k k d (omega arith) (omega arith)))
+    (each k (omega arith))
 
 pairs_in_range : {X : Type 0} (R : X → X → Type 0) (f : ℕ → X) (n : ℕ)
     → ((i j : ℕ) → i < j → j < n → R (f i) (f j)) → AllPairs R (map f (range_with_len 0 n))
@@ -79,7 +80,12 @@ length-filter p (x ∷ xs) = go (p x) (length-filter p xs)
 few_appear : (names : List (List ℕ)) → length (first_appearances names) ≤ length names
 few_appear [] = omega arith
 few_appear (x ∷ xs) =
-    omega (arith, few_appear xs, length-filter (λ y. not (pointwise nat_eq x y)) (first_appearances xs))
+    omega (
+      arith,
+      few_appear xs,
+      length-filter (λ y. not (pointwise nat_eq x y))
+          (first_appearances xs),
+    )
 
 pub stations_are_lawful : (stations : ℕ) → stations ≤ MOST_DRILL_STATIONS
     → AreStations (drill_stations stations)

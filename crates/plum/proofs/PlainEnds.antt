@@ -120,7 +120,8 @@ module _ (job : Job) (plain : IsPlain job) (setup : Setup) (sites : SitesView)
     counts = counts_from (status_of fault) before now after read.at_turn.counts
         (counts_of fault now after stopped.counts);
     appends = stops_so job fault before after plain (stopped_from stopped.journal stopped.begun);
-    unused = leaves_unused_at_capture job before now after read.files read.unused stopped.other_inputs;
+    unused = leaves_unused_at_capture job before now after read.files read.unused
+        stopped.other_inputs;
   }
 
   -- the work is done

@@ -55,20 +55,24 @@ over_lawful_files stations targets job (ends.Setup fault) before after at sound 
     let stated = file.2.1.1 in
     let wrong = (has file.0 file.1).1 in
     cc
-over_lawful_files stations targets job (ends.Sites sites.Stations fault) before after at sound lawful =
+over_lawful_files stations targets job (ends.Sites sites.Stations fault) before after at sound
+    lawful =
     let file = lawful inputs.Stations (omega arith)
     (subst (λ f. uses job f ≡ true) at.cause.0 at.used) in
     let has : WhereTold before inputs.Stations (IsFaultyStationFile fault) =
     subst (λ f. WhereTold before f (IsFaultyStationFile fault)) at.cause.0 at.cause.1 in
     (stations file.0).either file.2.0 fault file.2.1.1 (has file.0 file.1).1
-over_lawful_files stations targets job (ends.Sites sites.Targets fault) before after at sound lawful =
-    let file = lawful inputs.Targets (omega arith) (subst (λ f. uses job f ≡ true) at.cause.0 at.used) in
+over_lawful_files stations targets job (ends.Sites sites.Targets fault) before after at sound
+    lawful =
+    let file = lawful inputs.Targets (omega arith) (subst
+    (λ f. uses job f ≡ true) at.cause.0 at.used) in
     let has : WhereTold before inputs.Targets (IsFaultyTargetFile fault) =
     subst (λ f. WhereTold before f (IsFaultyTargetFile fault)) at.cause.0 at.cause.1 in
     (targets file.0).either file.2.0 fault file.2.1.1 (has file.0 file.1).1
 over_lawful_files stations targets job ends.ReadFault before after at sound lawful = sound
 over_lawful_files stations targets job ends.WriteFault before after at sound lawful = sound
-over_lawful_files stations targets job (ends.Limit (limits.File long)) before after at sound lawful =
+over_lawful_files stations targets job (ends.Limit (limits.File long)) before after at sound
+    lawful =
     let file = lawful long at.cause.1 (subst (λ f. uses job f ≡ true) at.cause.0 at.used) in
     let has : WhereTold before long (λ bytes. MOST_BYTES < length bytes) =
     subst (λ f. WhereTold before f (λ bytes. MOST_BYTES < length bytes)) at.cause.0 at.cause.2 in

@@ -30,7 +30,8 @@ use Rattle.plum.specs.DrillSummary.{DRILL_LANES, ArePredicted, IsDrillSummary, a
 use Rattle.plum.specs.DrillSummary.{drill_sites}
 use Rattle.plum.specs.Plain.{totals_in}
 use Rattle.plum.specs.Summarized.{HaveAnswers, last_answers}
-use Rattle.plum.proofs.Shown.{are_predicted, have_answers, last_values, session_answers, values_after}
+use Rattle.plum.proofs.Shown.{are_predicted, have_answers, last_values, session_answers}
+use Rattle.plum.proofs.Shown.{values_after}
 use Rattle.plum.proofs.Summed.{length-counts_after, totals_are}
 
 -- what is known of transcripts, of counts and of keys
@@ -111,7 +112,8 @@ module _ (laws : DrillLaws) (setup : Setup) (sites : SitesView) (totals : Totals
             laws.by_station laws.shows laws.alone table;
         answers = answers;
         answers_are = subst of_sites drilled (are_predicted sites values (areas_of sites.targets)
-            centre.sessions.items (session_answers setup sites capture done.journal done.output replay
+            centre.sessions.items (session_answers setup sites capture done.journal done.output
+            replay
             laws.each id centre same through.1));
         text_is = is_text
             ∙ ap (λ n. plain_line (Drill seed stations seconds)

@@ -79,7 +79,13 @@ none_kept parts earlier =
     ap length (parts earlier [] []) in
     let same : length (kept_after (earlier ++ []) []) ≡ length (kept_after earlier []) =
     ap (λ e. length (kept_after e [])) (append-nil earlier) in
-    omega (arith, length-append (kept_after earlier []) (kept_after (earlier ++ []) []), twice, same)
+    omega (
+      arith,
+      length-append (kept_after earlier [])
+          (kept_after (earlier ++ []) []),
+      twice,
+      same,
+    )
 
 kept_summed : KeptInParts → (earlier : List Packet) (segments : List (List Decoded))
     → sum_by (λ c. c.kept) (counts_after earlier segments)

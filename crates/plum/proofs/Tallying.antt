@@ -100,7 +100,8 @@ module _ (old new : Tally) (stations number : ℕ) (bodies : List Decoded)
               let e = eqb-true p.station.0 s same in
               let key : Packet → Key = λ q. q.key in
               let own : keys_of p.station.0 after ≡ keys_of p.station.0 before ++ p.key ∷ [] =
-              ap (map key) (of_station-own p.station.0 before p (eq-eqb p.station.0 p.station.0 refl))
+              ap (map key) (of_station-own p.station.0 before p
+              (eq-eqb p.station.0 p.station.0 refl))
               ∙ map-append key (of_station p.station.0 before) (p ∷ []) in
               subst (λ s. get_or new.keys.items s d ≡ greatest_key (keys_of s after)) e
               (ap (λ ks. get_or ks p.station.0 d) is

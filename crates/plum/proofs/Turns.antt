@@ -79,7 +79,8 @@ leaves_behind file before now after so_far frame later behind =
 -- What the command does not use is left alone where the work ends at an input that it uses, and
 -- those before that one, and it, alone are read.
 pub leaves_unused : (job : Job) (file : In) (before after : HostView) → uses_files job ≡ true
-    → uses job file ≡ true → IsFile file → LeavesBehind file before after → LeavesUnused job before after
+    → uses job file ≡ true → IsFile file → LeavesBehind file before after
+    → LeavesUnused job before after
 leaves_unused job file before after files used turn behind inputs.Setup none = absurd cc
 leaves_unused job file before after files used turn behind inputs.Stations none = absurd cc
 leaves_unused job inputs.Setup before after files used turn behind inputs.Targets none =
@@ -99,7 +100,8 @@ leaves_unused job file before after files used turn behind inputs.Output none =
 
 -- So where the work ends at the capture, if the targets were left alone or are used.
 pub leaves_unused_at_capture : (job : Job) (before now after : HostView)
-    → uses_files job ≡ true → LeavesUnused job before now → LeavesOtherInputs inputs.Capture now after
+    → uses_files job ≡ true → LeavesUnused job before now
+    → LeavesOtherInputs inputs.Capture now after
     → LeavesUnused job before after
 leaves_unused_at_capture job before now after files unused left inputs.Setup none = absurd cc
 leaves_unused_at_capture job before now after files unused left inputs.Stations none = absurd cc
@@ -113,20 +115,26 @@ leaves_unused_at_capture job before now after files unused left inputs.Output no
 
 -- What the command does not use is left alone before the capture, where the targets are skipped.
 pub unused_before_capture : (job : Job) (before between now : HostView)
-    → uses_files job ≡ true → IsAtTurn inputs.Targets before between → IsAtTurn inputs.Capture before now
+    → uses_files job ≡ true → IsAtTurn inputs.Targets before between
+    → IsAtTurn inputs.Capture before now
     → (uses_targets job ≡ false → now.left inputs.Targets ≡ between.left inputs.Targets)
     → LeavesUnused job before now
 unused_before_capture job before between now files at_targets at_capture skipped inputs.Setup none =
     absurd cc
-unused_before_capture job before between now files at_targets at_capture skipped inputs.Stations none =
+unused_before_capture job before between now files at_targets at_capture skipped inputs.Stations
+    none =
     absurd cc
-unused_before_capture job before between now files at_targets at_capture skipped inputs.Targets none =
+unused_before_capture job before between now files at_targets at_capture skipped inputs.Targets
+    none =
     skipped none ∙ at_targets.inputs inputs.Targets (omega arith)
-unused_before_capture job before between now files at_targets at_capture skipped inputs.Capture none =
+unused_before_capture job before between now files at_targets at_capture skipped inputs.Capture
+    none =
     absurd cc
-unused_before_capture job before between now files at_targets at_capture skipped inputs.Journal none =
+unused_before_capture job before between now files at_targets at_capture skipped inputs.Journal
+    none =
     at_capture.inputs inputs.Journal (omega arith)
-unused_before_capture job before between now files at_targets at_capture skipped inputs.Output none =
+unused_before_capture job before between now files at_targets at_capture skipped inputs.Output
+    none =
     at_capture.inputs inputs.Output (omega arith)
 
 -- it is read, and the next one has its turn

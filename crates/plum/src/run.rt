@@ -168,9 +168,9 @@ pub fn run<R: Threads + Wait + Sync, H: Host, G: Gate + Sync>(
     ensures counts { CountsEnd result (H.told host.old) (H.told host.new) }
 
     // What stands in the outputs. Of a replay the beginnings of two texts of one transcript, in
-    // order, whatever stops it, over the segments that were read. A plain command appends nothing to
-    // the journal, and to the output a beginning of its text over the capture; so does a drill, of
-    // its summary.
+    // order, whatever stops it, over the segments that were read. A plain command appends nothing
+    // to the journal, and to the output a beginning of its text over the capture; so does a drill,
+    // of its summary.
     ensures outputs { IfSome (job_of (map string_bytes words.now)) (λ job.
         AppendsEnd job result (H.told host.old) (H.told host.new)) }
 

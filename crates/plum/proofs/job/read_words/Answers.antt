@@ -9,7 +9,8 @@ returns-in_err-job-in-Some-Replay-clause-err c =
     any_err (is_some job ≡ true) c.from_residual.result
     (asked_some job c.in-Some-Replay.field-0 (sym c.command_of.ensures ∙ c.in-Some-Replay.is))
 
-pub returns-in_err-job-in-Some-Station-clause-err : goal.returns-in_err-job-in-Some-Station-clause-err
+pub returns-in_err-job-in-Some-Station-clause-err :
+    goal.returns-in_err-job-in-Some-Station-clause-err
 returns-in_err-job-in-Some-Station-clause-err c =
     let job = job_of (map string_bytes c.args.words.now) in
     any_err (is_some job ≡ true) c.from_residual-in_err-job-in-Some-Station.result

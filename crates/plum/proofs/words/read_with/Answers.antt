@@ -16,4 +16,5 @@ returns-in-Ok c =
     let taken : takes (app_of c.in_ok-command.command) words ≡ true =
     ap (λ (a : App). takes a words) c.in_ok-command.ensures ∙ c.requires in
     let simple = taken_is_simple (app_of c.in_ok-command.command) words taken in
-    (c.in-Ok.ensures.matches simple).0 ∙ ap (λ (a : App). matches_of a words) c.in_ok-command.ensures
+    (c.in-Ok.ensures.matches simple).0 ∙ ap (λ (a : App). matches_of a words)
+    c.in_ok-command.ensures

@@ -14,7 +14,8 @@ use Rattle.plum.proofs.work.check_files.Goals.{In_ok-tally}
 pub returns-in_err-stated-clause-ended : goal.returns-in_err-stated-clause-ended
 returns-in_err-stated-clause-ended g c =
     let p = err_from_is_err_and c.from_residual.result c.from_residual.ensures.1 in
-    rw (p.1, p.2) (λ job is. c.in_err-stated.ensures.ended job (check_uses_files job is) (check_uses_targets job is))
+    rw (p.1, p.2) (λ job is. c.in_err-stated.ensures.ended job (check_uses_files job is)
+    (check_uses_targets job is))
 
 pub returns-in_err-tally-clause-ended : goal.returns-in_err-tally-clause-ended
 returns-in_err-tally-clause-ended g c =
@@ -23,9 +24,11 @@ returns-in_err-tally-clause-ended g c =
     let first = g.H.Host.told c.args.host.now in
     let stated = c.in_ok-stated.stated in
     rw (p.1, p.2) (λ job is.
-    let read = c.in_ok-stated.ensures.read job (check_uses_files job is) (check_uses_targets job is) in
+    let read = c.in_ok-stated.ensures.read job (check_uses_files job is)
+    (check_uses_targets job is) in
     ends_behind_the_files job first (g.H.Host.told c.load_files.new.host)
-    (check_uses_files job is) (comes_to_capture job first stated.setup stated.sites read.stated) read.at_turn read.unused)
+    (check_uses_files job is) (comes_to_capture job first stated.setup stated.sites read.stated)
+    read.at_turn read.unused)
 
 -- the tally has told nothing
 tells_nothing : (g : given.Over) (c : In_ok-tally g)
@@ -49,7 +52,8 @@ returns-in_err-tell_capture-clause-ended g c =
     rw (p.1, p.2) (λ job is.
     ends_in_the_telling job (check_is_plain job is) stated.setup stated.sites
     (at c.args.host.now) (at c.load_files.new.host) (at c.tell_capture.new.host)
-    (c.in_ok-stated.ensures.read job (check_uses_files job is) (check_uses_targets job is)) _ (record {
+    (c.in_ok-stated.ensures.read job (check_uses_files job is) (check_uses_targets job is)) _
+    (record {
       read = λ same. e.read (ap (λ f. Err f) same);
       limit = λ same. e.limit (ap (λ f. Err f) same);
       begun = e.begun job stated.setup

@@ -8,7 +8,8 @@ use Rattle.plum.proofs.work.replay_files.Goals as goal
 pub returns-in_err-stated-clause-ended : goal.returns-in_err-stated-clause-ended
 returns-in_err-stated-clause-ended g c =
     let p = err_from_is_err_and c.from_residual.result c.from_residual.ensures.1 in
-    rw (p.1, p.2) (λ job is. c.in_err-stated.ensures.ended job (replay_uses_files job is) (replay_uses_targets job is))
+    rw (p.1, p.2) (λ job is. c.in_err-stated.ensures.ended job (replay_uses_files job is)
+    (replay_uses_targets job is))
 
 pub returns-in_err-centre-clause-ended : goal.returns-in_err-centre-clause-ended
 returns-in_err-centre-clause-ended g c =
@@ -17,9 +18,11 @@ returns-in_err-centre-clause-ended g c =
     let first = g.H.Host.told c.args.host.now in
     let stated = c.in_ok-stated.stated in
     rw (p.1, p.2) (λ job is.
-    let read = c.in_ok-stated.ensures.read job (replay_uses_files job is) (replay_uses_targets job is) in
+    let read = c.in_ok-stated.ensures.read job (replay_uses_files job is)
+    (replay_uses_targets job is) in
     ends_behind_the_files job first (g.H.Host.told c.load_files.new.host)
-    (replay_uses_files job is) (comes_to_capture job first stated.setup stated.sites read.stated) read.at_turn read.unused)
+    (replay_uses_files job is) (comes_to_capture job first stated.setup stated.sites read.stated)
+    read.at_turn read.unused)
 
 pub returns-in_err-replayed-clause-ended : goal.returns-in_err-replayed-clause-ended
 returns-in_err-replayed-clause-ended g c =
@@ -30,7 +33,8 @@ returns-in_err-replayed-clause-ended g c =
     let e = c.in_err-replayed.ensures in
     rw (p.1, p.2) (λ job is. ends_in_the_replay job is stated.setup stated.sites _
     (at c.args.host.now) (at c.load_files.new.host) (at c.replay-replayed.new.host)
-    (c.in_ok-stated.ensures.read job (replay_uses_files job is) (replay_uses_targets job is)) (record {
+    (c.in_ok-stated.ensures.read job (replay_uses_files job is) (replay_uses_targets job is))
+    (record {
       read = λ same. e.read (ap (λ f. Err f) same);
       limit = λ same. e.limit (ap (λ f. Err f) same);
       begun = e.in_order;
@@ -45,5 +49,6 @@ returns-clause-done g c = λ job is.
     let e = c.in_ok-replayed.ensures in
     ends_done job is stated.setup stated.sites c.in_ok-replayed.field-0 (at c.args.host.now)
     (at c.load_files.new.host) (at c.replay-replayed.new.host)
-    (c.in_ok-stated.ensures.read job (replay_uses_files job is) (replay_uses_targets job is)) e.texts e.sums e.no_fault
+    (c.in_ok-stated.ensures.read job (replay_uses_files job is) (replay_uses_targets job is))
+    e.texts e.sums e.no_fault
     e.other_inputs

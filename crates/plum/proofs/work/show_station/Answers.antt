@@ -29,7 +29,8 @@ returns-in_err-watch-clause-ended g c =
     let read = c.in_ok-stated.ensures.read job (station_uses_files c.args.code job is)
     (station_uses_none c.args.code job is) in
     ends_behind_the_files job first (g.H.Host.told c.load_files.new.host)
-    (station_uses_files c.args.code job is) (comes_to_capture job first stated.setup stated.sites read.stated) read.at_turn read.unused)
+    (station_uses_files c.args.code job is) (comes_to_capture job first stated.setup stated.sites
+    read.stated) read.at_turn read.unused)
 
 -- the watch is that of the station of this code
 watches : (g : given.Over) (c : In_ok-watch g) (job : Job) → IsStation c.args.code job

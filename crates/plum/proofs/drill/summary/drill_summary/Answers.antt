@@ -72,7 +72,8 @@ returns g c =
     (c.in-Ok.ensures.centre of.0 of.1 of.2 capture told) c.args.seed c.args.stations
     c.args.seconds text c.thresholds.ensures.table drilled refl c.drill_setup-setup.ensures
     c.in-Ok.ensures.sums
-    (is ∙ ap (λ (ss : List SessionView). plain_line (Drill c.args.seed c.args.stations c.args.seconds)
+    (is ∙ ap (λ (ss : List SessionView). plain_line
+    (Drill c.args.seed c.args.stations c.args.seconds)
     ++ out_line (totals_line totals.segments (counts_in_all totals))
     ++ flat_map out_line (answers_at totals.segments sites.targets (last_answers ss))) sessions))
     c.summary_of.ensures

@@ -61,7 +61,8 @@ loop-target-preserved c =
             count = w.answered-is ∙ ap (λ n. n + 1) count
                 ∙ sym (one_more_own area targets i t within is here);
             written = rw (w.summary-is, w.answered-is)
-                (answer_more c.args.m those answers n t _ c.loop-target.summary w.write_out.new.out _
+                (answer_more c.args.m those answers n t _ c.loop-target.summary w.write_out.new.out
+                _
                 is_site (slice_get-get_or answers n _ less)
                 (rw w.answer_line.ensures at w.in_ok-write_out.ensures.ok)
                 c.loop-target.invariant.written);
@@ -69,7 +70,8 @@ loop-target-preserved c =
       | else-eq w ↦
           let other = sym c.eq.ensures ∙ w.if-eq.false in
           record {
-            count = w.answered-is ∙ count ∙ sym (as_many_of_others area targets i t within is other);
+            count = w.answered-is ∙ count ∙ sym (as_many_of_others area targets i t within is
+                other);
             written = rw (w.summary-is, w.answered-is) c.loop-target.invariant.written;
           }
     ]
