@@ -3,9 +3,8 @@ use Rattle.std.proofs.Common.{◌≡◌, ℕ, suc, ◌<◌, List, [], ◌∷◌,
 use Rattle.std.proofs.Common.{ap, arith}
 use Rattle.std.proofs.lemmas.List.Sums.{sum_by-cons}
 use Rattle.plum_lanes.specs.declared.lanes.Lane.{Lane}
-use Rattle.plum_lanes.specs.Gathering.{IsGather}
+use Rattle.plum_lanes.specs.Gathering.{KeepsOpening}
 use Rattle.plum_lanes.specs.Lanes.{sent, all_sent}
-use Rattle.plum_lanes.specs.Opening.{Opening}
 use Rattle.plum_lanes.specs.Rounds.{AreAsBefore}
 use Rattle.plum_lanes.proofs.Frames.{KeepWhole-gather, KeepWhole-join}
 use Rattle.plum_centre.specs.Feeder.{FeederView}
@@ -15,7 +14,7 @@ use Rattle.plum_centre.proofs.Going.{GoesOn-self, GoesOn-then}
 
 -- The feeder alone went on.
 pub StayWhole-turn : (lanes : List Lane) (before after : FeederView)
-    → ((opening : Opening) → IsGather opening before.gather → IsGather opening after.gather)
+    → KeepsOpening before.gather after.gather
     → GoesOn before after → StayWhole lanes before lanes after
 StayWhole-turn lanes before after gather goes_on = record {
   keep = KeepWhole-gather lanes before.gather after.gather gather;

@@ -2,7 +2,7 @@
 
 ghost use Rattle.std.specs.Prelude.{◌≡◌, ◌∷◌, ◌++◌, ◌<◌, ◌⊎◌, [], true, false, length};
 ghost use Rattle.std.specs.Prelude.{IsErr, OnOk, OnErr, MatchResult};
-ghost use Rattle.plum_lanes.specs.Gathering.{gathered, settled_of, IsGather};
+ghost use Rattle.plum_lanes.specs.Gathering.{gathered, settled_of, IsGather, KeepsOpening};
 ghost use Rattle.plum_lanes.specs.Opening.{Opening};
 ghost use Rattle.plum_lanes.specs.Rounds.{AreWhole, ClosesRound};
 ghost use Rattle.plum_base.specs.Note.{note_of};
@@ -96,8 +96,7 @@ impl Feeder {
         requires few { length (gathered self.old.gather) < MOST_ENTRIES }
         ensures feeds { MatchResult result (λ fed. Feeds self.old fed self.new)
             (λ _. IsRefused self.old self.new) }
-        ensures gather { (opening : Opening) → IsGather opening self.old.gather
-            → IsGather opening self.new.gather }
+        ensures gather { KeepsOpening self.old.gather self.new.gather }
         ensures goes_on { GoesOn self.old self.new }
         ensures settled { settled_of self.new.gather ≡ settled_of self.old.gather }
         ensures refused { self.old.refused ≡ true → IsErr result × (self.new ≡ self.old) }

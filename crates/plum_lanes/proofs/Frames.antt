@@ -2,8 +2,7 @@
 use Rattle.std.proofs.Common.{◌<◌, List, refl, sym, ◌∙◌, subst}
 use Rattle.plum_lanes.specs.declared.gatherer.Gather.{Gather}
 use Rattle.plum_lanes.specs.declared.lanes.Lane.{Lane}
-use Rattle.plum_lanes.specs.Gathering.{IsGather}
-use Rattle.plum_lanes.specs.Opening.{Opening}
+use Rattle.plum_lanes.specs.Gathering.{KeepsOpening}
 use Rattle.plum_lanes.specs.Rounds.{IsAsBefore, AreAsBefore, KeepWhole}
 
 pub IsAsBefore-join : (a b c : Lane) → IsAsBefore a b → IsAsBefore b c → IsAsBefore a c
@@ -36,7 +35,7 @@ AreAsBefore-self lanes = record {
 
 -- The gatherer alone went on.
 pub KeepWhole-gather : (lanes : List Lane) (before after : Gather)
-    → ((opening : Opening) → IsGather opening before → IsGather opening after)
+    → KeepsOpening before after
     → KeepWhole lanes before lanes after
 KeepWhole-gather lanes before after gather = record {
   whole = λ opening whole. record {

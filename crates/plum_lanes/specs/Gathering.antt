@@ -39,6 +39,11 @@ pub record IsGather (opening : Opening) (gather : Gather) : Type 0 where
   pub out : out_of gather ≡ opening.basis.setup.lanes
   pub valid : IsValidHistory opening.basis.setup opening.basis.stations (gathered gather)
 
+-- It is the gatherer of the opening of which it was.
+abbrev pub KeepsOpening : Gather → Gather → Type 0
+KeepsOpening before after =
+    (opening : Opening) → IsGather opening before → IsGather opening after
+
 -- The gatherer knows what these lanes sent up to now: a round was closed, and none of them has sent
 -- since.
 abbrev pub AreSettled : List Lane → Gather → Type 0

@@ -73,6 +73,11 @@ pub record HasTaken (opening : Opening) (number : ℕ) (taken : List Packet) (la
   pub kept_is : kept_by lane ≡ length (kept taken)
   pub counted : kept_by lane + repeats_of lane ≡ length taken
 
+-- Whatever packets it took, as whichever lane, it has taken them still, and no others.
+abbrev pub KeepsTaken : Lane → Lane → Type 0
+KeepsTaken before after = (opening : Opening) (number : ℕ) (taken : List Packet)
+    → HasTaken opening number taken before → HasTaken opening number taken after
+
 -- The packet is of a listed station of the lane of this number.
 abbrev pub IsForLane : Opening → ℕ → Packet → Type 0
 IsForLane opening number p =

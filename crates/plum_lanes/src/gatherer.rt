@@ -19,15 +19,15 @@ pub struct Gather {
 
 impl Gather {
     ghost use Rattle.plum_lanes.specs.Opening.{Opening};
-    ghost use Rattle.plum_lanes.specs.Gathering.{gathered, settled_of, IsGather, FoundEmpty};
+    ghost use Rattle.plum_lanes.specs.Gathering.{gathered, settled_of, IsGather, KeepsOpening};
+    ghost use Rattle.plum_lanes.specs.Gathering.{FoundEmpty};
 
     /// The first entry of the queue, or None where it was empty. What is gathered stays a valid
     /// history. None tells that nothing is missing of what the lanes had sent when a round was
     /// closed last.
     pub fn next<R: Wait>(&mut self, rt: &R) -> Option<Entry>
         requires { (opening : Opening) × IsGather opening self.old }
-        ensures gather { (opening : Opening) → IsGather opening self.old
-            → IsGather opening self.new }
+        ensures gather { KeepsOpening self.old self.new }
         ensures gathered { gathered self.new ≡ gathered self.old ++ option_to_list result }
         ensures settled { settled_of self.new ≡ settled_of self.old }
         ensures all { IfNone result (FoundEmpty self.old self.new) }

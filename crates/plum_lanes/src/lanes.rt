@@ -27,7 +27,7 @@ pub struct Lane {
 
 impl Lane {
     ghost use Rattle.plum_lanes.specs.Opening.{Opening};
-    ghost use Rattle.plum_lanes.specs.Lanes.{IsLane, HasTaken, IsForLane};
+    ghost use Rattle.plum_lanes.specs.Lanes.{IsLane, HasTaken, KeepsTaken, IsForLane};
     ghost use Rattle.plum_lanes.specs.Lanes.{Tells, Counts, Offers, IfBusy, WasFull, sent};
     ghost use Rattle.plum_lanes.specs.Lanes.{waiting_in, kept_by, repeats_of};
 
@@ -88,8 +88,7 @@ impl Lane {
         requires waits { IsSome (waiting_in self.old) }
         requires lane { (opening : Opening) × (number : ℕ) × (taken : List Packet)
             × HasTaken opening number taken self.old }
-        ensures taken { (opening : Opening) (number : ℕ) (taken : List Packet)
-            → HasTaken opening number taken self.old → HasTaken opening number taken self.new }
+        ensures taken { KeepsTaken self.old self.new }
         ensures offers { Offers self.old result self.new }
         ensures busy { (opening : Opening) (number : ℕ) → IsLane opening number self.old
             → IfBusy result (WasFull opening number self.old) }

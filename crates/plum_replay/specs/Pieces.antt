@@ -6,7 +6,7 @@ use Rattle.plum_base.specs.Packet.{AreListed}
 use Rattle.plum_packet.specs.Reading.{MOST_RECORDS}
 use Rattle.plum_core.specs.Transcript.{of_lane}
 use Rattle.plum_lanes.specs.declared.lanes.Lane.{Lane}
-use Rattle.plum_lanes.specs.Gathering.{gathered, IsGather}
+use Rattle.plum_lanes.specs.Gathering.{gathered, IsGather, KeepsOpening}
 use Rattle.plum_lanes.specs.Lanes.{waiting_in, HasTaken, IsForLane, AreFree}
 use Rattle.plum_lanes.specs.Opening.{Opening}
 use Rattle.plum_snap.specs.Sessions.{SessionView}
@@ -87,8 +87,7 @@ CanFeed feeder = (opening : Opening) × IsGather opening feeder.gather × Gather
 
 -- It went on, and is that of the same opening.
 pub record HasFed (before after : FeederView) : Type 0 where
-  pub gather : (opening : Opening) → IsGather opening before.gather
-      → IsGather opening after.gather
+  pub gather : KeepsOpening before.gather after.gather
   pub goes_on : GoesOn before after
 
 -- ---- a session

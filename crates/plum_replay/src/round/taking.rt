@@ -3,7 +3,7 @@
 ghost use Rattle.std.specs.Prelude.{◌≡◌, ℕ, List, ◌++◌, true, None, IsSome};
 ghost use Rattle.std.specs.Option.{option_to_list};
 ghost use Rattle.plum_base.specs.declared.packet.Packet.{Packet};
-ghost use Rattle.plum_lanes.specs.Lanes.{waiting_in, HasTaken};
+ghost use Rattle.plum_lanes.specs.Lanes.{waiting_in, HasTaken, KeepsTaken};
 ghost use Rattle.plum_lanes.specs.Opening.{Opening};
 ghost use Rattle.plum_replay.specs.Pieces.{IsDone, CanTakePart, TakesPart};
 ghost use Rattle.plum_replay.specs.Pieces.{CanTakeParts, TakeParts};
@@ -40,8 +40,7 @@ fn send<R: Wait>(rt: &R, lane: &mut Lane, signals: &Signals) -> bool
     requires waits { IsSome (waiting_in lane.old) }
     requires lane { (opening : Opening) × (number : ℕ) × (taken : List Packet)
         × HasTaken opening number taken lane.old }
-    ensures taken { (opening : Opening) (number : ℕ) (taken : List Packet)
-        → HasTaken opening number taken lane.old → HasTaken opening number taken lane.new }
+    ensures taken { KeepsTaken lane.old lane.new }
     ensures sent { result ≡ true → waiting_in lane.new ≡ None }
 {
     for _ in rt.forever() {
@@ -61,8 +60,7 @@ fn send<R: Wait>(rt: &R, lane: &mut Lane, signals: &Signals) -> bool
 fn clear<R: Wait>(rt: &R, lane: &mut Lane, signals: &Signals) -> bool
     requires { (opening : Opening) × (number : ℕ) × (taken : List Packet)
         × HasTaken opening number taken lane.old }
-    ensures taken { (opening : Opening) (number : ℕ) (taken : List Packet)
-        → HasTaken opening number taken lane.old → HasTaken opening number taken lane.new }
+    ensures taken { KeepsTaken lane.old lane.new }
     ensures free { result ≡ true → waiting_in lane.new ≡ None }
 {
     if lane.waiting() {
