@@ -230,8 +230,7 @@ replayed_from setup sites totals before now after so_far replays capture told =
       output_appended = subst (λ held. Appends held (after.held Out) done.output)
           (so_far.outputs Out) done.output_appended;
       totals_are = done.totals_are;
-      read_whole = done.read_whole;
-      few = done.few;
+      read = done.read;
     }
 
 capture_differs : (later : In) → turn_of inputs.Capture < turn_of later → later ≡ inputs.Capture

@@ -104,8 +104,7 @@ module _ (job : Job) (plain : IsPlain job) (setup : Setup) (sites : SitesView)
           appended = subst (λ held. Appends held (after.held Out) done.text)
               (read.at_turn.outputs Out) done.appended;
           journal = done.journal ∙ read.at_turn.outputs Journal;
-          read_whole = done.read_whole;
-          few = done.few;
+          read = done.read;
         };
   }
 

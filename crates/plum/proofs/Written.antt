@@ -11,6 +11,7 @@ use Rattle.plum_packet.specs.declared.bodies.Found.{Found}
 use Rattle.plum_packet.specs.Bodies.{BodiesView, HasTold, FindsRecord, EndsBodies}
 use Rattle.plum_packet.specs.Bodies.{found_as, IsOfListed}
 use Rattle.plum_packet.specs.Records.{tail_of}
+use Rattle.plum_packet.specs.Reading.{IsReadToEnd, MOST_RECORDS}
 use Rattle.plum_packet.specs.Segments.{Decoded}
 use Rattle.plum_replay.proofs.Writings.{appends-same}
 use Rattle.plum.specs.declared.teller.Teller.{Teller}
@@ -113,6 +114,5 @@ module _ (first old : Teller) (stations : List StationSite) (capture : List ℕ)
         };
         appended = appended_more setup nothing told after more;
         journal = journal;
-        read_whole = left ∙ whole.read;
-        few = whole.few;
+        read = subst (IsReadToEnd MOST_RECORDS capture) (sym left) whole.read;
       }

@@ -18,7 +18,7 @@ use Rattle.plum_seq.specs.Keys.{of_station, kept}
 use Rattle.plum_core.specs.History.{IsValidHistory, HoldsKept}
 use Rattle.plum_packet.specs.Bodies.{bodies_of}
 use Rattle.plum_packet.specs.Counts.{counts_in}
-use Rattle.plum_packet.specs.Reading.{HasNoneTooMany}
+use Rattle.plum_packet.specs.Reading.{IsReadToEnd, MOST_RECORDS}
 use Rattle.plum_packet.specs.Segments.{Decoded, packets_in, refused_in, IsCaptureOf}
 use Rattle.plum_text.specs.declared.lines.OutLine.{OutLine}
 use Rattle.plum_text.specs.declared.lines.OutLine.TheVariants.{Refused, Tail}
@@ -29,7 +29,6 @@ use Rattle.plum_text.specs.Texts.{totals_line}
 use Rattle.plum_host.specs.declared.host.In.TheVariants as inputs
 use Rattle.plum_host.specs.declared.host.To.TheVariants.{Out, Journal}
 use Rattle.plum_host.specs.Told.{HostView, WhereTold, Appends}
-use Rattle.plum_replay.specs.Captured.{IsReadToEnd}
 use Rattle.plum.specs.Files.{IsSetupFile, IsStationFile}
 use Rattle.plum.specs.Job.{Job, replay, station, check, drill}
 
@@ -106,15 +105,14 @@ abbrev pub LeavesJournal : HostView → HostView → Type 0
 LeavesJournal before after = after.held Journal ≡ before.held Journal
 
 -- The text of a plain command over this capture is appended to the output, and nothing to the
--- journal. The capture is read to its end, and has no more records than are read.
+-- journal. The capture is read to its end.
 pub record AppendsPlain (job : Job) (setup : Setup) (stations : List StationSite)
     (capture : List ℕ) (before after : HostView) : Type 0 where
   pub text : List ℕ
   pub text_is : IsPlainText job setup stations capture text
   pub appended : Appends (before.held Out) (after.held Out) text
   pub journal : LeavesJournal before after
-  pub read_whole : IsReadToEnd after
-  pub few : HasNoneTooMany capture
+  pub read : IsReadToEnd MOST_RECORDS capture (after.left inputs.Capture)
 
 -- A beginning of the text of a plain command over this capture is appended to the output.
 abbrev pub AppendsPlainBegun : Job → Setup → List StationSite → List ℕ → HostView → HostView

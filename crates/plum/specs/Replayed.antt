@@ -23,7 +23,7 @@ use Rattle.plum.specs.Job.{Job}
 -- - A prediction is none exactly where no near station reports: a part of `answers` of `legal`.
 -- - Every body is accounted for: `counts` and `refused` of `sections_are`, and `complete` of
 --   `legal`, by which each kept packet stands in the journal once.
--- - The capture is read to its end: `read_whole`, and by `few` within the limit of records.
+-- - The capture is read to its end, within the limit of records: `read`.
 -- - The alerts are by the rules: `alerts` of `sections_are`.
 pub record ReplaysFiles (job : Job) (before after : HostView) : Type 0 where
   pub setup : Setup

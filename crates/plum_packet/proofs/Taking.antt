@@ -175,9 +175,11 @@ module _ (stations : List StationSite) (old new : RecordsView)
                   (λ l. AllZip (IsDecodedSegment stations) l (segments ++ begun ∷ [])) all decoded;
               tail_is = ap (λ progress. tail_in progress new.ahead) ended;
             },
-            whole.1,
-            no_more_records capture has.bodies new.ahead new.limit whole.0
-                (omega (arith, has.stands.count, few)),
+            record {
+              none_left = whole.1;
+              few = no_more_records capture has.bodies new.ahead new.limit whole.0
+                  (omega (arith, has.stands.count, few));
+            },
           );
         },
       )

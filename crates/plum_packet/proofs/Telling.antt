@@ -213,9 +213,11 @@ module _ (stations : List StationSite) where
         };
         count = omega (arith, segments, told.segments, length_push told.whole told.begun);
         all = told.all ∙ sym (bodies-push told.whole told.begun);
-        read = whole.1;
-        few = no_more_records capture has.bodies new.records.ahead MOST_RECORDS whole.0
-            (omega (arith, has.stands.count, few));
+        read = record {
+          none_left = whole.1;
+          few = no_more_records capture has.bodies new.records.ahead MOST_RECORDS whole.0
+              (omega (arith, has.stands.count, few));
+        };
       }
 
   module _ (capture : List ℕ) (given : List Decoded) (old : BodiesView) (new : RecordsView)

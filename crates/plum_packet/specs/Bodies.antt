@@ -1,11 +1,11 @@
 -- A reader of the bodies of a capture, one after another, and how far it has come.
-use Rattle.std.specs.Prelude.{◌≡◌, ℕ, ◌+◌, ◌<◌, List, [], ◌∷◌, ◌++◌, length, Option, Some, Ok, Err}
+use Rattle.std.specs.Prelude.{◌≡◌, ℕ, ◌+◌, ◌<◌, List, [], ◌∷◌, ◌++◌, length, Option, Ok, Err}
 use Rattle.std.specs.Prelude.{⊤}
 use Rattle.std.specs.List.{flat_map}
 use Rattle.plum_base.specs.declared.sites.StationSite.{StationSite}
 use Rattle.plum_packet.specs.declared.bodies.Found.{Found}
 use Rattle.plum_packet.specs.declared.bodies.Found.TheVariants.{Mark, Packet, Refused}
-use Rattle.plum_packet.specs.Reading.{HasBegun, HasTooManyRecords, HasNoneTooMany}
+use Rattle.plum_packet.specs.Reading.{HasBegun, HasTooManyRecords, IsReadToEnd, MOST_RECORDS}
 use Rattle.plum_packet.specs.Reading.{IsWithinLimit}
 use Rattle.plum_packet.specs.Records.{RecordsView, tail_of}
 use Rattle.plum_packet.specs.Segments.{Decoded, IsCaptureOf}
@@ -51,15 +51,14 @@ FindsRecord stations old left new after found = (capture : List ℕ) (given : Li
     → HasTold stations capture (given ++ found_as new.records.given found) new after
 
 -- The capture is segments of these bodies, decoded, as many as the reader shows, and a tail of the
--- length that it tells; it is read to its end, and has no more records than are read.
+-- length that it tells. It is read to its end.
 pub record IsToldWhole (stations : List StationSite) (capture : List ℕ) (given : List Decoded)
     (reader : BodiesView) (left : Option (List ℕ)) : Type 0 where
   pub segments : List (List Decoded)
   pub capture_is : IsCaptureOf stations capture segments (tail_of reader.records)
   pub count : reader.segments ≡ length segments
   pub all : given ≡ bodies_of segments
-  pub read : left ≡ Some []
-  pub few : HasNoneTooMany capture
+  pub read : IsReadToEnd MOST_RECORDS capture left
 
 -- In this step the capture ended.
 abbrev pub EndsBodies : List StationSite → BodiesView → Option (List ℕ) → BodiesView

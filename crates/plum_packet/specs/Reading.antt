@@ -76,6 +76,11 @@ pub record IsWithin (limit : ℕ) (capture : List ℕ) (left : Option (List ℕ)
   pub few : length bodies ≤ limit
   pub no_more : ¬ HasRecord ahead
 
+-- The capture is read to its end: nothing is left of it, and it has no more records than this.
+pub record IsReadToEnd (limit : ℕ) (capture : List ℕ) (left : Option (List ℕ)) : Type 0 where
+  pub none_left : left ≡ Some []
+  pub few : ¬ HasMoreRecords capture limit
+
 -- The capture has more records than the longest one has.
 abbrev pub HasTooManyRecords : List ℕ → Type 0
 HasTooManyRecords capture = HasMoreRecords capture MOST_RECORDS
@@ -88,15 +93,15 @@ HasNoneTooMany capture = ¬ HasTooManyRecords capture
 abbrev pub IsWithinLimit : List ℕ → Option (List ℕ) → Type 0
 IsWithinLimit capture left = IsWithin MOST_RECORDS capture left
 
--- Where a segment was given: another may come, or it was the last, nothing is left, and the capture
--- has no more records than the reader takes.
+-- Where a segment was given: another may come, or it was the last, and the capture is read to its
+-- end, within the limit of the reader.
 pub record IsGiven (stations : List StationSite) (capture : List ℕ)
     (segments : List (List Decoded)) (reader : RecordsView) (left : Option (List ℕ))
     : Type 0 where
   pub more : reader.progress ≡ Open → HasGiven stations capture segments reader left
   pub last : reader.progress ≡ Ended
-      → IsCaptureOf stations capture segments (tail_of reader) × (left ≡ Some [])
-      × (¬ HasMoreRecords capture reader.limit)
+      → IsCaptureOf stations capture segments (tail_of reader)
+      × IsReadToEnd reader.limit capture left
 
 -- A step of a reader, with what was left before and after it: one segment more was given.
 abbrev pub GivesSegment : List StationSite → RecordsView → Option (List ℕ)

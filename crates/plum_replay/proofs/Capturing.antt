@@ -1,6 +1,6 @@
 -- A capture that is read segment by segment.
 use Rattle.std.proofs.Common.{◌≡◌, ◌≢◌, ℕ, List, [], ◌++◌, refl}
-use Rattle.std.proofs.Common.{sym, ap, ◌∙◌, append_assoc, inl, inr}
+use Rattle.std.proofs.Common.{sym, ap, subst, ◌∙◌, append_assoc, inl, inr, length}
 use Rattle.std.proofs.Common.{Option, Some, Ok, Err}
 use Rattle.std.proofs.lemmas.List.Concat.{flat_map-append}
 use Rattle.std.specs.List.{flat_map}
@@ -10,7 +10,8 @@ use Rattle.plum_packet.specs.declared.records.Progress.TheVariants.{Open, Ended,
 use Rattle.plum_packet.specs.declared.segments.SegmentFault.{SegmentFault}
 use Rattle.plum_packet.specs.declared.segments.SegmentFault.TheVariants as segments
 use Rattle.plum_packet.specs.Capture.{record_of, IsBody}
-use Rattle.plum_packet.specs.Reading.{HasGiven, IsGiven, TakesRecords}
+use Rattle.plum_packet.specs.Reading.{MOST_RECORDS, HasGiven, IsGiven, IsReadToEnd}
+use Rattle.plum_packet.specs.Reading.{TakesRecords}
 use Rattle.plum_packet.specs.Records.{RecordsView, tail_of}
 use Rattle.plum_packet.specs.Segments.{Decoded}
 use Rattle.plum_replay.specs.declared.fault.ReplayFault.TheVariants.{Read, Limit}
@@ -42,16 +43,21 @@ ok_differs e = absurd cc
 -- Nothing was read of the capture: no segment lies in it.
 pub none_cut : (stations : List StationSite) (capture : List ℕ) (left : Option (List ℕ))
     → left ≡ Some capture → AreCut stations capture left []
-none_cut stations capture left told = record {
-  bodies = [];
-  ahead = [];
-  rest = capture;
-  told = told;
-  records = record { spelled = refl; lengths = tt };
-  cut = [];
-  cut_is = λ later. refl;
-  decoded = tt;
-}
+none_cut stations capture left told = (
+  record { limit = MOST_RECORDS; given = 0; last = []; ahead = []; progress = Open },
+  record {
+    bodies = [];
+    stands = record {
+      rest = capture;
+      told = told;
+      records = record { spelled = refl; lengths = tt };
+      count = refl;
+    };
+    cut = [];
+    cut_is = λ later. refl;
+    decoded = tt;
+  },
+)
 
 -- The segments that were given lie in what was taken,
 given_are_cut : (stations : List StationSite) (capture : List ℕ)
@@ -99,16 +105,24 @@ given_stay_cut stations capture given reader left after left_after was takes =
       decoded = was.decoded;
     }
 
--- whichever was the last
+-- and whichever was the last.
 pub given_are_taken : (stations : List StationSite) (capture : List ℕ)
     (given : List (List Decoded)) (reader : RecordsView) (left : Option (List ℕ))
-    → reader.progress ≢ Over → IsGiven stations capture given reader left
+    → reader.progress ≢ Over → reader.limit ≡ MOST_RECORDS
+    → IsGiven stations capture given reader left
     → AreTaken stations capture left given
-given_are_taken stations capture given reader left within was = by_progress reader.progress refl
+given_are_taken stations capture given reader left within limit was =
+    by_progress reader.progress refl
   where
     by_progress : (p : Progress) → reader.progress ≡ p → AreTaken stations capture left given
     by_progress Open is = inl (given_are_cut stations capture given reader left (was.more is))
     by_progress Ended is =
         let all = was.last is in
-        inr (tail_of reader, record { none_left = all.1; capture_is = all.0 })
+        inr (
+          tail_of reader,
+          record {
+            read = subst (λ n. IsReadToEnd n capture left) limit all.1;
+            capture_is = all.0;
+          },
+        )
     by_progress Over is = absurd (within is)

@@ -7,11 +7,12 @@ use Rattle.plum_host.specs.declared.host.In.{In}
 use Rattle.plum_host.specs.declared.host.In.TheVariants.{Capture}
 use Rattle.plum_host.specs.declared.host.To.{To}
 use Rattle.plum_host.specs.declared.host.To.TheVariants.{Out, Journal}
+use Rattle.plum_host.specs.Frames.{LeavesInputs, LeavesOutputs}
 use Rattle.plum_host.specs.Told.{HostView}
 use Rattle.plum_packet.specs.declared.records.Progress.TheVariants.{Open, Ended, Over}
 use Rattle.plum_packet.specs.declared.segment.Segment.{Segment}
 use Rattle.plum_packet.specs.Reading.{MOST_RECORDS, HasGiven, IsGiven, GivesSegment, HoldsBodies}
-use Rattle.plum_packet.specs.Reading.{HasMoreRecords, TakesRecords}
+use Rattle.plum_packet.specs.Reading.{IsReadToEnd, TakesRecords}
 use Rattle.plum_packet.specs.Records.{RecordsView, tail_of}
 use Rattle.plum_packet.specs.Segments.{Decoded}
 use Rattle.plum_core.specs.Laws.{LegalAtStart}
@@ -103,19 +104,19 @@ module _ (id : CentreId) (setup : Setup) (sites : SitesView) (capture : List ℕ
           }
 
       -- or is not replayed whole
-      pub stops_first : reader.progress ≢ Over → (now : HostView)
-          → ((input : In) → now.left input ≡ between.left input)
+      pub stops_first : reader.progress ≢ Over → reader.limit ≡ MOST_RECORDS → (now : HostView)
+          → LeavesInputs between now
           → ((decoded : List Decoded) → HoldsBodies segment decoded
           → AreTaken sites.stations capture (now.left Capture) (decoded ∷ [])
           → AppendsBegun setup sites capture (now.left Capture) between now)
           → AppendsBegun setup sites capture (now.left Capture) first now
-      stops_first within now inputs stops =
+      stops_first within limit now inputs stops =
           let given = first_given in
           let left = now.left Capture in
           let taken : AreTaken sites.stations capture left (given.0 ∷ []) =
           subst (λ l. AreTaken sites.stations capture l (given.0 ∷ [])) (sym (inputs Capture))
           (given_are_taken sites.stations capture (given.0 ∷ []) reader (between.left Capture)
-          within given.2) in
+          within limit given.2) in
           begun_from setup sites capture left first between now
           (appends-same (first.held Journal) (between.held Journal) (same Journal)) (same Out)
           (stops given.0 given.1 taken)
@@ -133,8 +134,7 @@ module _ (id : CentreId) (setup : Setup) (sites : SitesView) (capture : List ℕ
           last = was.last;
           written = was.written;
           capture_is = all.0;
-          read_whole = all.1;
-          few = subst (λ n. HasMoreRecords capture n → ⊥) limit all.2;
+          read = subst (λ n. IsReadToEnd n capture (before.left Capture)) limit all.1;
         }
 
     module _ (reading : old.progress ≡ Open) (reader : RecordsView) (between : HostView)
@@ -194,8 +194,8 @@ module _ (id : CentreId) (setup : Setup) (sites : SitesView) (capture : List ℕ
             }
 
         -- or is not replayed whole
-        pub stops_next : reader.progress ≢ Over → (now : HostView)
-            → ((input : In) → now.left input ≡ between.left input)
+        pub stops_next : reader.progress ≢ Over → reader.limit ≡ MOST_RECORDS → (now : HostView)
+            → LeavesInputs between now
             → ((decoded : List Decoded)
             → HasWritten id setup sites was.done was.last progress counted centre first between
             → HoldsBodies segment decoded
@@ -203,10 +203,10 @@ module _ (id : CentreId) (setup : Setup) (sites : SitesView) (capture : List ℕ
             ((was.done ++ was.last ∷ []) ++ decoded ∷ [])
             → AppendsBegun setup sites capture (now.left Capture) first now)
             → AppendsBegun setup sites capture (now.left Capture) first now
-        stops_next within now inputs stops =
+        stops_next within limit now inputs stops =
             let given = next_given in
             let all = (was.done ++ was.last ∷ []) ++ given.0 ∷ [] in
             stops given.0 written_before given.1
             (subst (λ l. AreTaken sites.stations capture l all) (sym (inputs Capture))
             (given_are_taken sites.stations capture all reader (between.left Capture) within
-            given.2))
+            limit given.2))

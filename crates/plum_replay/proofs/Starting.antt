@@ -8,6 +8,7 @@ use Rattle.plum_host.specs.declared.host.In.TheVariants.{Capture}
 use Rattle.plum_host.specs.declared.host.To.TheVariants.{Out, Journal}
 use Rattle.plum_host.specs.Told.{HostView, Appends}
 use Rattle.plum_host.proofs.Pieces.{appends-more}
+use Rattle.plum_packet.specs.Reading.{IsReadToEnd, MOST_RECORDS}
 use Rattle.plum_packet.specs.Segments.{Decoded}
 use Rattle.plum_core.specs.History.{entries_of_lane}
 use Rattle.plum_core.specs.Laws.{LegalAtStart}
@@ -21,7 +22,6 @@ use Rattle.plum_replay.specs.declared.progress.Counted.{Counted}
 use Rattle.plum_replay.specs.declared.progress.Progress.{Progress}
 use Rattle.plum_replay.specs.declared.totals.Totals.{Totals}
 use Rattle.plum_replay.specs.Between.{IsBetweenRounds}
-use Rattle.plum_replay.specs.Captured.{IsReadToEnd}
 use Rattle.plum_replay.specs.Progress.{AreDesks, HasBegun, HoldsJournal}
 use Rattle.plum_replay.specs.Replayed.{AppendsReplay, ReplaysCapture, ReplaysThrough}
 use Rattle.plum_replay.specs.Written.{HasWritten, WritesCapture, WritesAll, WritesEnd}
@@ -76,11 +76,11 @@ pub replays : (id : CentreId) (setup : Setup) (sites : SitesView) (progress : Pr
     (wrote : WritesCapture id setup sites progress counted tail earlier opened between capture)
     → WritesEnd id setup sites (wrote.done ++ wrote.last ∷ []) tail totals centre opened now
     → Appends (first.held Journal) (opened.held Journal) [] → opened.held Out ≡ first.held Out
-    → IsReadToEnd now
+    → now.left Capture ≡ between.left Capture
     → (done : AppendsReplay setup sites totals capture first now)
     × HoldsJournal id done.replay.transcript centre
 replays id setup sites progress counted totals tail earlier centre first opened between now capture
-    wrote ends nothing same_out read_whole = (
+    wrote ends nothing same_out same_end = (
       record {
         journal = journal_text sites.stations ends.transcript.parts;
         output = out_text sites.targets ends.sections tail;
@@ -101,8 +101,7 @@ replays id setup sites progress counted totals tail earlier centre first opened 
         output_appended = subst (λ held. Appends held (now.held Out)
             (out_text sites.targets ends.sections tail)) same_out ends.output;
         totals_are = ends.totals_are;
-        read_whole = read_whole;
-        few = wrote.few;
+        read = subst (IsReadToEnd MOST_RECORDS capture) (sym same_end) wrote.read;
       },
       ends.holds,
     )
@@ -127,7 +126,7 @@ module _ (setup : Setup) (sites : SitesView) (progress : Progress) (counted : Co
       let all = wrote id of is capture (same_left ∙ told) in
       replays id setup sites progress counted totals tail earlier centre first opened between now
       capture all (ends id setup all.done all.last opened all.written) nothing same_out
-      (same_end ∙ all.read_whole)
+      same_end
 
   -- Its texts are appended.
   pub replays_capture : (r : Result Totals ReplayFault)

@@ -11,7 +11,7 @@ use Rattle.plum_host.specs.declared.host.In.TheVariants.{Capture}
 use Rattle.plum_host.specs.declared.host.To.TheVariants.{Out, Journal}
 use Rattle.plum_host.specs.Told.{HostView, WhereTold, Appends}
 use Rattle.plum_packet.specs.Capture.{AreRecords}
-use Rattle.plum_packet.specs.Reading.{IsCutInto}
+use Rattle.plum_packet.specs.Reading.{IsCutInto, IsReadToEnd, MOST_RECORDS}
 use Rattle.plum_packet.specs.Segments.{Decoded, packets_in, IsCaptureOf, IsDecodedSegment}
 use Rattle.plum_core.specs.Transcript.{Transcript, IsLegalOver}
 use Rattle.plum_text.specs.Texts.{Section, journal_text, out_text}
@@ -31,10 +31,10 @@ pub record AreCut (stations : List StationSite) (capture : List ℕ) (left : Opt
   pub cut_is : IsCutInto bodies cut
   pub decoded : AllZip (IsDecodedSegment stations) cut segments
 
--- Nothing is left of the capture, and it is these segments, decoded, and a tail of this length.
+-- The capture is read to its end, and is these segments, decoded, and a tail of this length.
 pub record AreAll (stations : List StationSite) (capture : List ℕ) (left : Option (List ℕ))
     (segments : List (List Decoded)) (tail : ℕ) : Type 0 where
-  pub none_left : left ≡ Some []
+  pub read : IsReadToEnd MOST_RECORDS capture left
   pub capture_is : IsCaptureOf stations capture segments tail
 
 -- These segments lie in what was taken of the capture: its first ones, or all.

@@ -1,12 +1,7 @@
--- A capture that is read to its end, or as far as a fault.
-use Rattle.std.specs.Prelude.{◌≡◌, ℕ, List, [], Some}
+-- A capture that is read as far as a fault.
 use Rattle.plum_host.specs.declared.host.In.TheVariants.{Capture}
 use Rattle.plum_host.specs.Told.{HostView, WhereTold}
 use Rattle.plum_packet.specs.Reading.{IsWithinLimit, HasTooManyRecords}
-
--- The capture is read to its end.
-abbrev pub IsReadToEnd : HostView → Type 0
-IsReadToEnd after = after.left Capture ≡ Some []
 
 -- Where the host tells the capture: a read failed within the limit.
 abbrev pub FailsWithin : HostView → HostView → Type 0

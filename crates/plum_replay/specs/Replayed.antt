@@ -6,14 +6,13 @@ use Rattle.plum_base.specs.Sites.{SitesView}
 use Rattle.plum_host.specs.declared.host.In.TheVariants.{Capture}
 use Rattle.plum_host.specs.declared.host.To.TheVariants.{Out, Journal}
 use Rattle.plum_host.specs.Told.{HostView, WhereTold, Appends}
-use Rattle.plum_packet.specs.Reading.{HasNoneTooMany}
+use Rattle.plum_packet.specs.Reading.{IsReadToEnd, MOST_RECORDS}
 use Rattle.plum_packet.specs.Segments.{Decoded, packets_in, IsCaptureOf}
 use Rattle.plum_core.specs.Transcript.{Transcript, IsLegal}
 use Rattle.plum_centre.specs.declared.centre.Centre.{Centre}
 use Rattle.plum_centre.specs.Centre.{CentreId}
 use Rattle.plum_text.specs.Texts.{Section, journal_text, out_text, totals_of}
 use Rattle.plum_replay.specs.declared.totals.Totals.{Totals}
-use Rattle.plum_replay.specs.Captured.{IsReadToEnd}
 use Rattle.plum_replay.specs.Progress.{HoldsJournal}
 use Rattle.plum_replay.specs.Sections.{AreSections}
 
@@ -52,8 +51,7 @@ counts_in_all totals = record {
 }
 
 -- The two texts of a replay of this capture are appended to what the journal and the output held,
--- and these are its totals. The capture is read to its end, and has no more records than a replay
--- takes.
+-- and these are its totals. The capture is read to its end.
 pub record AppendsReplay (setup : Setup) (sites : SitesView) (totals : Totals)
     (capture : List ℕ) (before after : HostView) : Type 0 where
   pub journal : List ℕ
@@ -62,8 +60,7 @@ pub record AppendsReplay (setup : Setup) (sites : SitesView) (totals : Totals)
   pub journal_appended : Appends (before.held Journal) (after.held Journal) journal
   pub output_appended : Appends (before.held Out) (after.held Out) output
   pub totals_are : totals ≡ totals_in replay.sections replay.tail
-  pub read_whole : IsReadToEnd after
-  pub few : HasNoneTooMany capture
+  pub read : IsReadToEnd MOST_RECORDS capture (after.left Capture)
 
 -- Where the host tells the capture: its two texts are appended.
 abbrev pub ReplaysCapture : Setup → SitesView → Totals → HostView → HostView → Type 0

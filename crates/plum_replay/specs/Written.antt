@@ -5,7 +5,7 @@ use Rattle.plum_base.specs.Sites.{SitesView}
 use Rattle.plum_host.specs.declared.host.To.TheVariants.{Out, Journal}
 use Rattle.plum_host.specs.declared.host.In.TheVariants.{Capture}
 use Rattle.plum_host.specs.Told.{HostView, WhereTold, Appends}
-use Rattle.plum_packet.specs.Reading.{HasNoneTooMany}
+use Rattle.plum_packet.specs.Reading.{IsReadToEnd, MOST_RECORDS}
 use Rattle.plum_packet.specs.Segments.{Decoded, IsCaptureOf, packets_in}
 use Rattle.plum_core.specs.Transcript.{Transcript, IsLegal}
 use Rattle.plum_centre.specs.declared.centre.Centre.{Centre}
@@ -14,7 +14,6 @@ use Rattle.plum_text.specs.Texts.{Section, journal_text, out_text}
 use Rattle.plum_replay.specs.declared.progress.Counted.{Counted}
 use Rattle.plum_replay.specs.declared.progress.Progress.{Progress}
 use Rattle.plum_replay.specs.declared.totals.Totals.{Totals}
-use Rattle.plum_replay.specs.Captured.{IsReadToEnd}
 use Rattle.plum_replay.specs.Parts.{sections_text}
 use Rattle.plum_replay.specs.Progress.{HasReplayed, HoldsJournal}
 use Rattle.plum_replay.specs.Replayed.{totals_in}
@@ -33,7 +32,7 @@ pub record HasWritten (id : CentreId) (setup : Setup) (sites : SitesView)
   pub output : Appends (before.held Out) (after.held Out) (sections_text sites.targets sections)
 
 -- So it is where the host tells the capture: these are all its segments, and a tail of this length.
--- It is read to its end, and has no more records than a replay takes.
+-- It is read to its end.
 pub record WritesCapture (id : CentreId) (setup : Setup) (sites : SitesView) (progress : Progress)
     (counted : Counted) (tail : ℕ) (centre : Centre) (before after : HostView)
     (capture : List ℕ) : Type 0 where
@@ -41,8 +40,7 @@ pub record WritesCapture (id : CentreId) (setup : Setup) (sites : SitesView) (pr
   pub last : List Decoded
   pub written : HasWritten id setup sites done last progress counted centre before after
   pub capture_is : IsCaptureOf sites.stations capture (done ++ last ∷ []) tail
-  pub read_whole : IsReadToEnd after
-  pub few : HasNoneTooMany capture
+  pub read : IsReadToEnd MOST_RECORDS capture (after.left Capture)
 
 abbrev pub WritesAll : CentreId → Setup → SitesView → Progress → Counted → ℕ → Centre → HostView
     → HostView → Type 0

@@ -81,7 +81,9 @@ returns-in_err-counted-clause-in_order g c =
     c.next.new.self (c.in_ok-reader.ensures.start sites.stations capture) (at c.next.new.host)
     c.next.ensures.frame.outputs c.in-Some.first
     (rw c.in-Some.is at c.in_ok-first.ensures.some)
-    (rw c.in-Some.is at c.in_ok-first.ensures.progress) now c.put_first.ensures.inputs
+    (rw c.in-Some.is at c.in_ok-first.ensures.progress)
+    (c.in_ok-first.ensures.same_limit ∙ ap (λ r. r.limit) c.in_ok-reader.ensures.view) now
+    c.put_first.ensures.inputs
     (λ decoded holds taken. c.in_err-counted.ensures.in_order id setup decoded begun holds capture
     (now.left Capture) taken))
 
@@ -198,7 +200,8 @@ returns-in_err-counted-2-clause-in_order g c =
     (rw c.in-Some-2.is at c.in_ok-segment.ensures.begun) c.next-in-rounds.new.self
     (at c.next-in-rounds.new.host) c.next-in-rounds.ensures.frame.outputs c.in-Some-2.segment
     (rw c.in-Some-2.is at c.in_ok-segment.ensures.some)
-    (rw c.in-Some-2.is at c.in_ok-segment.ensures.progress) now c.put_next.ensures.inputs
+    (rw c.in-Some-2.is at c.in_ok-segment.ensures.progress)
+    (c.in_ok-segment.ensures.same_limit ∙ c.rounds.invariant.limit) now c.put_next.ensures.inputs
     (λ decoded still holds taken. c.in_err-counted-2.ensures.in_order id setup was.done was.last
     decoded first still holds capture (now.left Capture) taken))
 

@@ -1,9 +1,10 @@
-use Rattle.std.proofs.Common.{[], inl, refl, sym, ◌∙◌, rules, Result, OnOk, OnErr}
+use Rattle.std.proofs.Common.{[], inl, refl, sym, subst, ◌∙◌, rules, Result, OnOk, OnErr}
 use Rattle.std.proofs.lemmas.Result.{err_from_is_err_and, on_ok_weaker, on_err_weaker}
 use Rattle.plum_centre.specs.Centre.{CentreId, IsOf, IsNew}
 use Rattle.plum_host.specs.declared.host.In.TheVariants.{Capture}
 use Rattle.plum_host.specs.declared.host.To.TheVariants.{Out, Journal}
 use Rattle.plum_host.specs.Told.{Appends}
+use Rattle.plum_packet.specs.Reading.{IsReadToEnd, MOST_RECORDS}
 use Rattle.plum_replay.specs.Progress.{HasBegun}
 use Rattle.plum_replay.proofs.Capturing.{none_cut}
 use Rattle.plum_replay.proofs.Starting.{begins, replays_through, replays_capture}
@@ -141,6 +142,7 @@ returns-clause-in_order g c =
     (opened g start.In_ok-write)
     (c.write.ensures.frame.other_output Out (λ same. outputs_differ (sym same)))
     (stops id setup wrote.done wrote.last opened_at wrote.written capture left (record {
-      none_left = c.put_last.ensures.inputs Capture ∙ wrote.read_whole;
+      read = subst (IsReadToEnd MOST_RECORDS capture) (sym (c.put_last.ensures.inputs Capture))
+          wrote.read;
       capture_is = wrote.capture_is;
     })))
