@@ -59,22 +59,7 @@ none_cut stations capture left told = (
   },
 )
 
--- The segments that were given lie in what was taken,
-given_are_cut : (stations : List StationSite) (capture : List ℕ)
-    (given : List (List Decoded)) (reader : RecordsView) (left : Option (List ℕ))
-    → HasGiven stations capture given reader left → AreCut stations capture left given
-given_are_cut stations capture given reader left was = record {
-  bodies = was.bodies;
-  ahead = reader.ahead;
-  rest = was.stands.rest;
-  told = was.stands.told;
-  records = was.stands.records;
-  cut = was.cut;
-  cut_is = was.cut_is;
-  decoded = was.decoded;
-}
-
--- also where more was taken behind them
+-- The segments that were given lie in what was taken, also where more was taken behind them,
 pub given_stay_cut : (stations : List StationSite) (capture : List ℕ)
     (given : List (List Decoded)) (reader : RecordsView) (left : Option (List ℕ))
     (after : RecordsView) (left_after : Option (List ℕ))
@@ -85,25 +70,29 @@ given_stay_cut stations capture given reader left after left_after was takes =
     let more = taken.0 in
     let stands = taken.1 in
     let front = flat_map record_of was.bodies in
-    let others = flat_map record_of more in
-    record {
-      bodies = was.bodies;
-      ahead = others ++ after.ahead;
-      rest = stands.rest;
-      told = stands.told;
-      records = record {
-        spelled =
-            stands.records.spelled
-            ∙ ap (λ bytes. bytes ++ (after.ahead ++ stands.rest))
-            (flat_map-append record_of was.bodies more)
-            ∙ append_assoc front others (after.ahead ++ stands.rest)
-            ∙ ap (λ bytes. front ++ bytes) (sym (append_assoc others after.ahead stands.rest));
-        lengths = All-front IsBody was.bodies more stands.records.lengths;
-      };
-      cut = was.cut;
-      cut_is = was.cut_is;
-      decoded = was.decoded;
-    }
+    let others = flat_map record_of more in (
+      record after { given = length was.bodies; ahead = others ++ after.ahead },
+      record {
+        bodies = was.bodies;
+        stands = record {
+          rest = stands.rest;
+          told = stands.told;
+          records = record {
+            spelled =
+                stands.records.spelled
+                ∙ ap (λ bytes. bytes ++ (after.ahead ++ stands.rest))
+                (flat_map-append record_of was.bodies more)
+                ∙ append_assoc front others (after.ahead ++ stands.rest)
+                ∙ ap (λ bytes. front ++ bytes) (sym (append_assoc others after.ahead stands.rest));
+            lengths = All-front IsBody was.bodies more stands.records.lengths;
+          };
+          count = refl;
+        };
+        cut = was.cut;
+        cut_is = was.cut_is;
+        decoded = was.decoded;
+      },
+    )
 
 -- and whichever was the last.
 pub given_are_taken : (stations : List StationSite) (capture : List ℕ)
@@ -115,7 +104,7 @@ given_are_taken stations capture given reader left within limit was =
     by_progress reader.progress refl
   where
     by_progress : (p : Progress) → reader.progress ≡ p → AreTaken stations capture left given
-    by_progress Open is = inl (given_are_cut stations capture given reader left (was.more is))
+    by_progress Open is = inl (reader, was.more is)
     by_progress Ended is =
         let all = was.last is in
         inr (

@@ -1,7 +1,6 @@
 -- What stands in the outputs of a replay that stopped.
-use Rattle.std.specs.Prelude.{◌≡◌, ◌+◌, ◌-◌, ◌⊎◌, ◌<◌, ◌≤◌, ℕ, List, [], ◌++◌, length, map, take}
-use Rattle.std.specs.Prelude.{Option, Some}
-use Rattle.std.specs.List.{AllZip}
+use Rattle.std.specs.Prelude.{◌≡◌, ◌+◌, ◌-◌, ◌⊎◌, ◌<◌, ◌≤◌, ℕ, List, length, map, take}
+use Rattle.std.specs.Prelude.{Option}
 use mathlib.Core.List.{IsPrefix}
 use Rattle.plum_base.specs.declared.entry.Entry.{Entry}
 use Rattle.plum_base.specs.declared.setup.Setup.{Setup}
@@ -10,26 +9,19 @@ use Rattle.plum_base.specs.Sites.{SitesView}
 use Rattle.plum_host.specs.declared.host.In.TheVariants.{Capture}
 use Rattle.plum_host.specs.declared.host.To.TheVariants.{Out, Journal}
 use Rattle.plum_host.specs.Told.{HostView, WhereTold, Appends}
-use Rattle.plum_packet.specs.Capture.{AreRecords}
-use Rattle.plum_packet.specs.Reading.{IsCutInto, IsReadToEnd, MOST_RECORDS}
-use Rattle.plum_packet.specs.Segments.{Decoded, packets_in, IsCaptureOf, IsDecodedSegment}
+use Rattle.plum_packet.specs.Reading.{HasGiven, IsReadToEnd, MOST_RECORDS}
+use Rattle.plum_packet.specs.Records.{RecordsView}
+use Rattle.plum_packet.specs.Segments.{Decoded, packets_in, IsCaptureOf}
 use Rattle.plum_core.specs.Transcript.{Transcript, IsLegalOver}
 use Rattle.plum_text.specs.Texts.{Section, journal_text, out_text}
 use Rattle.plum_replay.specs.Parts.{sections_text}
 use Rattle.plum_replay.specs.Sections.{AreSections}
 
--- Where this is left of the capture, its first records were taken, and they are cut into these
--- segments, decoded, whatever comes behind them.
-pub record AreCut (stations : List StationSite) (capture : List ℕ) (left : Option (List ℕ))
-    (segments : List (List Decoded)) : Type 0 where
-  pub bodies : List (List ℕ)
-  pub ahead : List ℕ
-  pub rest : List ℕ
-  pub told : left ≡ Some rest
-  pub records : AreRecords capture bodies (ahead ++ rest)
-  pub cut : List (List (ℕ × List ℕ))
-  pub cut_is : IsCutInto bodies cut
-  pub decoded : AllZip (IsDecodedSegment stations) cut segments
+-- Of the capture a reader was given these segments, decoded, and this is left. It may have more
+-- ahead, whole records too.
+abbrev pub AreCut : List StationSite → List ℕ → Option (List ℕ) → List (List Decoded) → Type 0
+AreCut stations capture left segments =
+    (reader : RecordsView) × HasGiven stations capture segments reader left
 
 -- The capture is read to its end, and is these segments, decoded, and a tail of this length.
 pub record AreAll (stations : List StationSite) (capture : List ℕ) (left : Option (List ℕ))
