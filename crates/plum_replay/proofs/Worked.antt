@@ -42,9 +42,9 @@ AreSessions-looked id before after looked are = record {
       let was = are.each a d here in
       let now = looked.each a d here in
       record {
-        publisher_is = now.same_publisher ∙ was.publisher_is;
-        sites_are = now.same_sites ∙ was.sites_are;
-        area_is = now.same_area ∙ was.area_is;
+        publisher_is = ap (λ (s : SessionView). s.publisher) now.rest ∙ was.publisher_is;
+        sites_are = ap (λ (s : SessionView). s.sites) now.rest ∙ was.sites_are;
+        area_is = ap (λ (s : SessionView). s.area) now.rest ∙ was.area_is;
       };
 }
 

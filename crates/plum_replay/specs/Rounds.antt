@@ -2,28 +2,23 @@
 -- what they send, and its sessions read, side by side.
 use Rattle.std.specs.Prelude.{◌≡◌, ℕ, ◌+◌, ◌<◌, ◌≤◌, Bool, true, false, List, []}
 use Rattle.std.specs.Prelude.{◌++◌, length, slice_index_or}
-use mathlib.Core.List.{IsPrefix}
 use Rattle.plum_base.specs.declared.packet.Packet.{Packet}
 use Rattle.plum_base.specs.Packet.{AreListed}
 use Rattle.plum_packet.specs.Reading.{MOST_RECORDS}
-use Rattle.plum_core.specs.Transcript.{of_lane, IsReadingOver}
+use Rattle.plum_core.specs.Transcript.{of_lane}
 use Rattle.plum_lanes.specs.declared.lanes.Lane.{Lane}
 use Rattle.plum_lanes.specs.Gathering.{gathered}
 use Rattle.plum_lanes.specs.Lanes.{HasTaken, AreFree}
 use Rattle.plum_lanes.specs.Opening.{Opening}
-use Rattle.plum_snap.specs.Sessions.{SessionView}
+use Rattle.plum_snap.specs.Sessions.{SessionView, HasRead}
 use Rattle.plum_centre.specs.declared.centre.Centre.{Centre}
 use Rattle.plum_centre.specs.Centre.{CentreId, IsWhole}
 use Rattle.plum_centre.specs.Turns.{GoesOn}
 
--- The session looked at what is published: it read one front, which begins with all that it had
--- seen. It may have been shut out before.
-pub record HasLooked (before after : SessionView) : Type 0 where
-  pub goes_on : IsPrefix before.seen after.seen
-  pub over : IsReadingOver before.sites after.seen before.area after.last
-  pub same_publisher : after.publisher ≡ before.publisher
-  pub same_sites : after.sites ≡ before.sites
-  pub same_area : after.area ≡ before.area
+-- The session looked at what is published: it has read one front, however often it was shut out
+-- before.
+abbrev pub HasLooked : SessionView → SessionView → Type 0
+HasLooked before after = HasRead (record before { shut = after.shut }) after after.last
 
 -- Each of these looked.
 pub record HaveLooked (before after : List SessionView) : Type 0 where
