@@ -7,10 +7,9 @@ use Rattle.plum_base.specs.Counts.{AddUp}
 use Rattle.plum_base.specs.Sites.{SitesView}
 use Rattle.plum_host.specs.declared.host.In.{In}
 use Rattle.plum_host.specs.declared.host.In.TheVariants as inputs
-use Rattle.plum_host.specs.declared.host.To.{To}
 use Rattle.plum_host.specs.declared.host.To.TheVariants.{Out, Journal}
 use Rattle.plum_host.specs.Told.{HostView, Appends}
-use Rattle.plum_host.specs.Frames.{OnlyReads, LeavesOtherInputs}
+use Rattle.plum_host.specs.Frames.{OnlyReads, LeavesOtherInputs, LeavesOutputs}
 use Rattle.plum_host.specs.Counting.{CountsNothing}
 use Rattle.plum_replay.specs.declared.fault.ReplayFault.{ReplayFault}
 use Rattle.plum_replay.specs.declared.fault.ReplayFault.TheVariants as replays
@@ -93,7 +92,7 @@ counts_from ends.NoMemory before now after none ended =
     record { reads = ended.reads ∙ none.reads; writes = ended.writes ∙ none.writes }
 
 -- Where no output was written, nothing is appended.
-pub nothing_appended : (before after : HostView) → ((to : To) → after.held to ≡ before.held to)
+pub nothing_appended : (before after : HostView) → LeavesOutputs before after
     → AppendsNothing before after
 nothing_appended before after same = record {
   journal = appends-same (before.held Journal) (after.held Journal) (same Journal);
@@ -156,8 +155,7 @@ pub ends_at_a_file : (job : Job) (status : Status) (file : In) (before now after
 ends_at_a_file job status file before now after turn files used comes so_far frame cause counts =
     let here = cause_from status file before now after (so_far.inputs file (omega arith)) cause in
     let behind = leaves_behind file before now after so_far frame in
-    let outputs : (to : To) → after.held to ≡ before.held to =
-    λ to. frame.outputs to ∙ so_far.outputs to in
+    let outputs : LeavesOutputs before after = λ to. frame.outputs to ∙ so_far.outputs to in
     let nothing = nothing_appended before after outputs in
     record {
       cause = caused_at job status before after files (record {

@@ -4,8 +4,8 @@ use Rattle.plum_base.specs.declared.setup.Setup.{Setup}
 use Rattle.plum_base.specs.Sites.{SitesView}
 use Rattle.plum_host.specs.declared.host.In.{In}
 use Rattle.plum_host.specs.declared.host.In.TheVariants as inputs
-use Rattle.plum_host.specs.declared.host.To.{To}
 use Rattle.plum_host.specs.Counting.{CountsNothing}
+use Rattle.plum_host.specs.Frames.{LeavesOutputs}
 use Rattle.plum_host.specs.Told.{HostView}
 use Rattle.plum.specs.declared.status.LimitOf.TheVariants.{Records}
 use Rattle.plum.specs.declared.status.Status.{Status}
@@ -62,7 +62,7 @@ pub record HasEnded (job : Job) (status : Status) (before after : HostView) : Ty
 -- counted or written.
 pub record IsAtTurn (file : In) (before now : HostView) : Type 0 where
   pub inputs : (input : In) → turn_of file ≤ turn_of input → now.left input ≡ before.left input
-  pub outputs : (to : To) → now.held to ≡ before.held to
+  pub outputs : LeavesOutputs before now
   pub counts : CountsNothing before now
 
 -- The files that the command uses are read, and state this setup and these sites; the capture has

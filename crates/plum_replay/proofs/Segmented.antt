@@ -3,9 +3,7 @@ use Rattle.std.proofs.Common.{◌≡◌, ◌≢◌, ℕ, List, [], ◌∷◌, �
 use Rattle.std.proofs.Common.{sym, subst, append-nil}
 use Rattle.plum_base.specs.declared.setup.Setup.{Setup}
 use Rattle.plum_base.specs.Sites.{SitesView}
-use Rattle.plum_host.specs.declared.host.In.{In}
 use Rattle.plum_host.specs.declared.host.In.TheVariants.{Capture}
-use Rattle.plum_host.specs.declared.host.To.{To}
 use Rattle.plum_host.specs.declared.host.To.TheVariants.{Out, Journal}
 use Rattle.plum_host.specs.Frames.{LeavesInputs, LeavesOutputs}
 use Rattle.plum_host.specs.Told.{HostView}
@@ -37,7 +35,7 @@ pub goes_on : (sites : SitesView) (capture : List ℕ) (segments : List (List De
     (old reader : RecordsView) (left : Option (List ℕ)) (between now : HostView)
     (segment : Segment) → HasGiven sites.stations capture segments old left
     → GivesSegment sites.stations old left reader (between.left Capture) segment
-    → ((input : In) → now.left input ≡ between.left input) → HasGone sites reader now capture
+    → LeavesInputs between now → HasGone sites reader now capture
 goes_on sites capture segments old reader left between now segment was gives inputs =
     let more = gives capture segments was in
     record {
@@ -63,7 +61,7 @@ module _ (id : CentreId) (setup : Setup) (sites : SitesView) (capture : List ℕ
   given_none reader = HasGiven sites.stations capture [] reader (Some capture)
 
   module _ (old reader : RecordsView) (start : given_none old) (between : HostView)
-      (same : (to : To) → between.held to ≡ first.held to) where
+      (same : LeavesOutputs first between) where
     start_told : HasGiven sites.stations capture [] old (first.left Capture)
     start_told = subst (HasGiven sites.stations capture [] old) (sym told) start
 
@@ -90,7 +88,7 @@ module _ (id : CentreId) (setup : Setup) (sites : SitesView) (capture : List ℕ
           (now : HostView)
           → ((decoded : List Decoded) → HoldsBodies segment decoded
           → HasWritten id setup sites [] decoded progress counted centre between now)
-          → ((input : In) → now.left input ≡ between.left input)
+          → LeavesInputs between now
           → HasRead id setup sites progress counted centre reader first now capture
       read-first progress counted centre now writes inputs =
           let given = first_given in
@@ -138,7 +136,7 @@ module _ (id : CentreId) (setup : Setup) (sites : SitesView) (capture : List ℕ
         }
 
     module _ (reading : old.progress ≡ Open) (reader : RecordsView) (between : HostView)
-        (same : (to : To) → between.held to ≡ before.held to) where
+        (same : LeavesOutputs before between) where
       -- what was given
       abbrev given_before : HasGiven sites.stations capture (was.done ++ was.last ∷ []) old
           (before.left Capture)
@@ -180,7 +178,7 @@ module _ (id : CentreId) (setup : Setup) (sites : SitesView) (capture : List ℕ
             → HoldsBodies segment decoded
             → HasWritten id setup sites (was.done ++ was.last ∷ []) decoded after next centre_after
             first now)
-            → ((input : In) → now.left input ≡ between.left input)
+            → LeavesInputs between now
             → HasRead id setup sites after next centre_after reader first now capture
         read-more after next centre_after now writes inputs =
             let given = next_given in

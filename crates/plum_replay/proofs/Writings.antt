@@ -3,8 +3,8 @@ use Rattle.std.proofs.Common.{◌≡◌, ℕ, List, [], ◌∷◌, ◌++◌, Opt
 use Rattle.std.proofs.Common.{sym, ap, subst, append-nil}
 use Rattle.plum_base.specs.declared.setup.Setup.{Setup}
 use Rattle.plum_base.specs.Sites.{SitesView}
-use Rattle.plum_host.specs.declared.host.To.{To}
 use Rattle.plum_host.specs.declared.host.To.TheVariants.{Out, Journal}
+use Rattle.plum_host.specs.Frames.{LeavesOutputs}
 use Rattle.plum_host.specs.Told.{HostView, Appends}
 use Rattle.plum_host.proofs.Pieces.{appends-more}
 use Rattle.plum_packet.specs.Segments.{Decoded}
@@ -85,7 +85,7 @@ pub written-stays : (id : CentreId) (setup : Setup) (sites : SitesView)
     (done : List (List Decoded)) (last : List Decoded) (progress : Progress) (counted : Counted)
     (centre : Centre) (before between now : HostView)
     → HasWritten id setup sites done last progress counted centre before between
-    → ((to : To) → now.held to ≡ between.held to)
+    → LeavesOutputs between now
     → HasWritten id setup sites done last progress counted centre before now
 written-stays id setup sites done last progress counted centre before between now was same =
     record {
@@ -103,7 +103,7 @@ pub written-from : (id : CentreId) (setup : Setup) (sites : SitesView)
     (done : List (List Decoded)) (last : List Decoded) (progress : Progress) (counted : Counted)
     (centre : Centre) (first before now : HostView)
     → HasWritten id setup sites done last progress counted centre before now
-    → ((to : To) → before.held to ≡ first.held to)
+    → LeavesOutputs first before
     → HasWritten id setup sites done last progress counted centre first now
 written-from id setup sites done last progress counted centre first before now was same =
     record {

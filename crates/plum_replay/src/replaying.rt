@@ -8,9 +8,8 @@ ghost use Rattle.plum_base.specs.declared.packet.Packet.{Packet};
 ghost use Rattle.plum_base.specs.declared.setup.Setup.{Setup};
 ghost use Rattle.plum_centre.specs.Centre.{CentreId, IsOf, IsNew};
 ghost use Rattle.plum_host.specs.Counting.{CountsNothing};
-ghost use Rattle.plum_host.specs.Frames.{LeavesOtherInputs};
+ghost use Rattle.plum_host.specs.Frames.{LeavesInputs, LeavesOtherInputs};
 ghost use Rattle.plum_host.specs.Told.{HostView};
-ghost use Rattle.plum_host.specs.declared.host.In.{In};
 ghost use Rattle.plum_host.specs.declared.host.In.TheVariants.{Capture};
 ghost use Rattle.plum_packet.specs.Reading.{MOST_RECORDS, HoldsBodies, bodies_in};
 ghost use Rattle.plum_packet.specs.Segments.{Decoded};
@@ -87,7 +86,7 @@ fn put_first<R: Threads + Wait + Sync, H: Host, G: Gate + Sync>(
     ensures no_limit { ¬ IsErrOf result ReplayFault.Limit }
     ensures no_fault { OnOk result (CountsNothing (H.told host.old) (H.told host.new)) }
     ensures fault { IfErr result (λ fault. CountsStop fault (H.told host.old) (H.told host.new)) }
-    ensures inputs { (input : In) → (H.told host.new).left input ≡ (H.told host.old).left input }
+    ensures inputs { LeavesInputs (H.told host.old) (H.told host.new) }
 {
     // For the contract: what is legal where nothing was replayed.
     legal_transcripts();
@@ -142,7 +141,7 @@ fn put_next<R: Threads + Wait + Sync, H: Host, G: Gate + Sync>(
     ensures no_limit { ¬ IsErrOf result ReplayFault.Limit }
     ensures no_fault { OnOk result (CountsNothing (H.told host.old) (H.told host.new)) }
     ensures fault { IfErr result (λ fault. CountsStop fault (H.told host.old) (H.told host.new)) }
-    ensures inputs { (input : In) → (H.told host.new).left input ≡ (H.told host.old).left input }
+    ensures inputs { LeavesInputs (H.told host.old) (H.told host.new) }
 {
     let told = take_and_read(rt, alloc, sites, progress, centre, counted, segment, gate)?;
     put_all(host, To::Journal, told.taken.journal.as_slice())?;
@@ -189,7 +188,7 @@ fn put_last<R: Threads + Wait + Sync, H: Host, G: Gate + Sync>(
     ensures no_limit { ¬ IsErrOf result ReplayFault.Limit }
     ensures no_fault { OnOk result (CountsNothing (H.told host.old) (H.told host.new)) }
     ensures fault { IfErr result (λ fault. CountsStop fault (H.told host.old) (H.told host.new)) }
-    ensures inputs { (input : In) → (H.told host.new).left input ≡ (H.told host.old).left input }
+    ensures inputs { LeavesInputs (H.told host.old) (H.told host.new) }
 {
     let Ended { counted, tail } = ended;
     let mut output = read_last(rt, alloc, sites, progress, centre, counted, gate)?;
