@@ -75,13 +75,16 @@ can_work laws kept id earlier packets before feeder can is =
     (holds_kept kept id earlier before between) in
     record {
       whole = forgotten id before feeder is between.whole;
-      listed = subst (λ n. All (λ (p : Packet). p.station.0 < n) packets) (sym can.stations_are)
-          can.listed;
-      free = between.free;
-      room = λ i d less. record {
-        taken = of_lane count i earlier;
-        has = between.taken i d less;
-        few = omega (arith, few_of_lane count i earlier, can.few);
+      share = record {
+        all = between.whole.lanes_are.lanes_are.all;
+        listed = subst (λ n. All (λ (p : Packet). p.station.0 < n) packets)
+            (sym can.stations_are) can.listed;
+        free = between.free;
+        room = λ i d less. record {
+          taken = of_lane count i earlier;
+          has = between.taken i d less;
+          few = omega (arith, few_of_lane count i earlier, can.few);
+        };
       };
       few = omega (arith, few, can.few, ap (λ g. length (gathered g)) same);
       none_noted = ap (λ (f : FeederView). f.notes) is;
@@ -106,7 +109,7 @@ module _ (laws : LaneLaws) (kept : GatheredAreKept) (id : CentreId)
       let within : i < length before.lanes.items = omega (arith, less, long) in
       subst (λ ps. HasTaken id.opening i ps (slice_index_or worked.lanes.items i d))
       (sym (of_lane-append count i earlier packets))
-      (work.taken i d (of_lane count i earlier) within (can.between.taken i d within))
+      (work.shared.taken i d (of_lane count i earlier) within (can.between.taken i d within))
 
   -- They sent few entries together.
   pub few_sent_then : all_sent worked.lanes.items < MOST_ENTRIES
@@ -180,7 +183,7 @@ module _ (laws : LaneLaws) (kept : GatheredAreKept) (id : CentreId)
             (taken_then i d within);
         free = λ i d less.
             let within : i < length worked.lanes.items = omega (arith, less, stay.keep.same.long) in
-            (stay.keep.same.each i d within).waiting_is ∙ work.free i d within;
+            (stay.keep.same.each i d within).waiting_is ∙ work.shared.free i d within;
         sent = is_closed.sent_is_gathered;
         published = is_closed.published_all;
         seen = λ a d less.

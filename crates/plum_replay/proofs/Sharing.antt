@@ -22,7 +22,8 @@ use Rattle.plum_replay.proofs.ByLanes.{few_of_lane}
 use Rattle.plum_replay.proofs.Lists.{some_of}
 use Rattle.plum_replay.specs.declared.round.taking.Share.{Share}
 use Rattle.plum_replay.specs.Pieces.{CanTakePart, TakesPart, CanTakeParts, TakeParts, IsDone}
-use Rattle.plum_replay.specs.Pieces.{AreShares, CanShare, HaveShared, lane_in}
+use Rattle.plum_replay.specs.Pieces.{AreShares, lane_in}
+use Rattle.plum_replay.specs.Rounds.{CanShare, HaveShared}
 
 -- the packets of a lane, with one more of it
 of_lane-own : (lanes i : ℕ) (packets : List Packet) (p : Packet)

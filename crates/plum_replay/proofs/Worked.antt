@@ -10,8 +10,8 @@ use Rattle.plum_snap.specs.Sessions.{SessionView}
 use Rattle.plum_centre.specs.declared.centre.Centre.{Centre}
 use Rattle.plum_centre.specs.Centre.{CentreId, IsWhole, AreSessions}
 use Rattle.plum_replay.specs.declared.round.looking.Watch.{Watch}
-use Rattle.plum_replay.specs.Rounds.{HasLooked, HaveLooked, CanWork, HasWorked}
-use Rattle.plum_replay.specs.Pieces.{CanShare, HaveShared, CanFeed, HasFed, AllLook, session_in}
+use Rattle.plum_replay.specs.Rounds.{HasLooked, HaveLooked, HaveShared, CanWork, HasWorked}
+use Rattle.plum_replay.specs.Pieces.{CanFeed, HasFed, AllLook, session_in}
 use Rattle.plum_replay.proofs.Lists.{some_of}
 
 -- The sessions looked, where all are done.
@@ -50,15 +50,6 @@ AreSessions-looked id before after looked are = record {
 
 module _ (id : CentreId) (packets : List Packet) (before : Centre)
     (can : CanWork id packets before) where
-  -- Its lanes can share the packets out.
-  pub CanShare-centre : CanShare id.opening packets before.lanes.items
-  CanShare-centre = record {
-    all = can.whole.lanes_are.lanes_are.all;
-    listed = can.listed;
-    free = can.free;
-    room = can.room;
-  }
-
   -- Its feeder can turn.
   pub CanFeed-centre : CanFeed before.feeder
   CanFeed-centre = (
@@ -79,7 +70,7 @@ module _ (id : CentreId) (packets : List Packet) (before : Centre)
           each = λ i d less.
               let here : i < length before.lanes.items =
               subst (λ n. i < n) shared.long less in
-              let room = can.room i d here in
+              let room = can.share.room i d here in
               (shared.taken i d room.taken here room.has).is_lane;
         };
         gather_is = fed.gather id.opening can.whole.lanes_are.gather_is;
@@ -95,8 +86,7 @@ module _ (id : CentreId) (packets : List Packet) (before : Centre)
       whole =
           IsWhole-worked (AreSessions-looked id before.sessions.items after.sessions.items
           looked can.whole.sessions_are);
-      taken = shared.taken;
-      free = shared.free;
+      shared = shared;
       goes_on = fed.goes_on;
       allowed = allowed;
       looked = λ _. looked;
@@ -108,8 +98,7 @@ module _ (id : CentreId) (packets : List Packet) (before : Centre)
         → HasWorked id packets false before after
     HasWorked-unread same = record {
       whole = IsWhole-worked (subst (AreSessions id) (sym same) can.whole.sessions_are);
-      taken = shared.taken;
-      free = shared.free;
+      shared = shared;
       goes_on = fed.goes_on;
       allowed = allowed;
       looked = λ is. absurd (cc is);

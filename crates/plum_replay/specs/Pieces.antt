@@ -2,12 +2,10 @@
 use Rattle.std.specs.Prelude.{◌≡◌, ℕ, ◌+◌, ◌<◌, ◌≤◌, true, List, [], ◌++◌, length, map}
 use Rattle.std.specs.Prelude.{slice_index_or, All, None}
 use Rattle.plum_base.specs.declared.packet.Packet.{Packet}
-use Rattle.plum_base.specs.Packet.{AreListed}
 use Rattle.plum_packet.specs.Reading.{MOST_RECORDS}
-use Rattle.plum_core.specs.Transcript.{of_lane}
 use Rattle.plum_lanes.specs.declared.lanes.Lane.{Lane}
 use Rattle.plum_lanes.specs.Gathering.{gathered, IsGather, KeepsOpening}
-use Rattle.plum_lanes.specs.Lanes.{waiting_in, HasTaken, IsForLane, AreFree}
+use Rattle.plum_lanes.specs.Lanes.{waiting_in, HasTaken, IsForLane}
 use Rattle.plum_lanes.specs.Opening.{Opening}
 use Rattle.plum_snap.specs.Sessions.{SessionView}
 use Rattle.plum_centre.specs.Feeder.{FeederView}
@@ -56,24 +54,6 @@ pub record AreShares (lanes : List Lane) (packets : ℕ → List Packet) (shares
   pub lanes_are : map lane_in shares ≡ lanes
   pub each : (i : ℕ) (d : Share) → i < length shares
       → (slice_index_or shares i d).packets.items ≡ packets i
-
--- These lanes, which are all of the opening, can share these packets out.
-pub record CanShare (opening : Opening) (packets : List Packet) (lanes : List Lane) : Type 0 where
-  pub all : length lanes ≡ opening.basis.setup.lanes
-  pub listed : AreListed opening.basis.stations packets
-  pub free : AreFree lanes
-  pub room : (i : ℕ) (d : Lane) → i < length lanes
-      → HasRoom opening i packets (slice_index_or lanes i d)
-
--- Each of them took its packets of these, and nothing waits in any.
-pub record HaveShared (opening : Opening) (packets : List Packet) (before after : List Lane)
-    : Type 0 where
-  pub long : length after ≡ length before
-  pub taken : (i : ℕ) (d : Lane) (taken : List Packet) → i < length before
-      → HasTaken opening i taken (slice_index_or before i d)
-      → HasTaken opening i (taken ++ of_lane opening.basis.setup.lanes i packets)
-      (slice_index_or after i d)
-  pub free : AreFree after
 
 -- ---- the feeder
 

@@ -33,26 +33,37 @@ pub record HasRoom (opening : Opening) (number : ℕ) (packets : List Packet) (l
   pub has : HasTaken opening number taken lane
   pub few : length taken + length packets ≤ MOST_RECORDS
 
--- A centre can work on these packets: nothing waits in its lanes, and nothing is noted.
+-- These lanes, which are all of the opening, can share these packets out: nothing waits in any.
+pub record CanShare (opening : Opening) (packets : List Packet) (lanes : List Lane) : Type 0 where
+  pub all : length lanes ≡ opening.basis.setup.lanes
+  pub listed : AreListed opening.basis.stations packets
+  pub free : AreFree lanes
+  pub room : (i : ℕ) (d : Lane) → i < length lanes
+      → HasRoom opening i packets (slice_index_or lanes i d)
+
+-- Each of them took its packets of these, in order, and sent what they made: nothing waits in any.
+pub record HaveShared (opening : Opening) (packets : List Packet) (before after : List Lane)
+    : Type 0 where
+  pub long : length after ≡ length before
+  pub taken : (i : ℕ) (d : Lane) (taken : List Packet) → i < length before
+      → HasTaken opening i taken (slice_index_or before i d)
+      → HasTaken opening i (taken ++ of_lane opening.basis.setup.lanes i packets)
+      (slice_index_or after i d)
+  pub free : AreFree after
+
+-- A centre can work on these packets: its lanes can share them out, and nothing is noted.
 pub record CanWork (id : CentreId) (packets : List Packet) (centre : Centre) : Type 0 where
   pub whole : IsWhole id centre
-  pub listed : AreListed id.opening.basis.stations packets
-  pub free : AreFree centre.lanes.items
-  pub room : (i : ℕ) (d : Lane) → i < length centre.lanes.items
-      → HasRoom id.opening i packets (slice_index_or centre.lanes.items i d)
+  pub share : CanShare id.opening packets centre.lanes.items
   pub few : length (gathered centre.feeder.gather) ≤ MOST_RECORDS
   pub none_noted : centre.feeder.notes ≡ []
 
--- It did: each lane took its packets of these, in order, and sent what they made; its feeder went
--- on, and was refused no memory; and each session looked, in a round in which they read.
+-- It did: its lanes shared them out; its feeder went on, and was refused no memory; and each
+-- session looked, in a round in which they read.
 pub record HasWorked (id : CentreId) (packets : List Packet) (reads : Bool) (before after : Centre)
     : Type 0 where
   pub whole : IsWhole id after
-  pub taken : (i : ℕ) (d : Lane) (taken : List Packet) → i < length before.lanes.items
-      → HasTaken id.opening i taken (slice_index_or before.lanes.items i d)
-      → HasTaken id.opening i (taken ++ of_lane id.opening.basis.setup.lanes i packets)
-      (slice_index_or after.lanes.items i d)
-  pub free : AreFree after.lanes.items
+  pub shared : HaveShared id.opening packets before.lanes.items after.lanes.items
   pub goes_on : GoesOn before.feeder after.feeder
   pub allowed : after.feeder.refused ≡ false
   pub looked : reads ≡ true → HaveLooked before.sessions.items after.sessions.items

@@ -7,9 +7,9 @@ ghost use Rattle.plum_centre.specs.Centre.{CentreId};
 ghost use Rattle.plum_core.specs.Transcript.{of_lane};
 ghost use Rattle.plum_lanes.specs.Opening.{Opening};
 ghost use Rattle.plum_replay.specs.Pieces.{CanFeed, HasFed, CanTakeParts, TakeParts, AllLook};
-ghost use Rattle.plum_replay.specs.Pieces.{IsDone, AreShares, CanShare, HaveShared};
+ghost use Rattle.plum_replay.specs.Pieces.{IsDone, AreShares};
 ghost use Rattle.plum_replay.specs.Pieces.{lane_in, session_in};
-ghost use Rattle.plum_replay.specs.Rounds.{CanWork, HasWorked};
+ghost use Rattle.plum_replay.specs.Rounds.{CanShare, HaveShared, CanWork, HasWorked};
 
 mod feeding;
 mod looking;

@@ -4,9 +4,9 @@ use Rattle.std.specs.Vec.{with_items}
 use Rattle.std.proofs.lemmas.List.{with_items_is}
 use Rattle.plum_snap.specs.Sessions.{SessionView}
 use Rattle.plum_centre.specs.declared.centre.Centre.{Centre}
-use Rattle.plum_replay.specs.Rounds.{HaveLooked, HasWorked}
-use Rattle.plum_replay.specs.Pieces.{HaveShared, AllLook, session_in}
-use Rattle.plum_replay.proofs.Worked.{CanShare-centre, CanFeed-centre, HaveLooked-done}
+use Rattle.plum_replay.specs.Rounds.{HaveLooked, HaveShared, HasWorked}
+use Rattle.plum_replay.specs.Pieces.{AllLook, session_in}
+use Rattle.plum_replay.proofs.Worked.{CanFeed-centre, HaveLooked-done}
 use Rattle.plum_replay.proofs.Worked.{HasWorked-read, HasWorked-unread}
 use Rattle.plum_replay.proofs.round.work_round.Goals as goal
 
@@ -14,14 +14,14 @@ pub work-requires-clause-share : goal.work-requires-clause-share
 work-requires-clause-share g c κs within =
     let can = c.requires.can in (
       can.0.opening,
-      rw c.replace-lanes.ensures.value (CanShare-centre can.0 _ c.args.centre.now can.1),
+      rw c.replace-lanes.ensures.value can.1.share,
     )
 
 pub work-requires-else-reads-clause-share : goal.work-requires-else-reads-clause-share
 work-requires-else-reads-clause-share g c κs within =
     let can = c.requires.can in (
       can.0.opening,
-      rw c.replace-lanes.ensures.value (CanShare-centre can.0 _ c.args.centre.now can.1),
+      rw c.replace-lanes.ensures.value can.1.share,
     )
 
 pub work-requires-clause-feed : goal.work-requires-clause-feed
@@ -55,7 +55,7 @@ returns-in_ok-centre-2 g c = λ id can.
     let shared : HaveShared id.opening packets centre.lanes.items c.in_ok-centre.field-0.items =
     rw c.replace-lanes.ensures.value
     at (c.in_ok-centre.ensures.share id.opening
-    (rw c.replace-lanes.ensures.value (CanShare-centre id packets centre can))) in
+    (rw c.replace-lanes.ensures.value can.share)) in
     let worked : Centre = record {
       lanes = c.in_ok-centre.field-0;
       feeder = c.work.new.feeder;
@@ -75,7 +75,7 @@ returns-in_ok-centre-3 g c = λ id can.
     let shared : HaveShared id.opening packets centre.lanes.items c.in_ok-centre-3.field-0.items =
     rw c.replace-lanes.ensures.value
     at (c.in_ok-centre-3.ensures.share id.opening
-    (rw c.replace-lanes.ensures.value (CanShare-centre id packets centre can))) in
+    (rw c.replace-lanes.ensures.value can.share)) in
     let worked : Centre = record {
       lanes = c.in_ok-centre-3.field-0;
       feeder = c.work-else-reads.new.feeder;
