@@ -3,7 +3,7 @@ use Rattle.std.proofs.Common.{◌≡◌, ◌≢◌, ℕ, ◌<◌, ◌==◌, true
 use Rattle.std.proofs.Common.{List, [], ◌∷◌, ◌++◌, length, map, set, get_or, get_or-set_same}
 use Rattle.std.proofs.Common.{get_or-set_other, length-set, refl, sym, ap, ◌∙◌, subst}
 use Rattle.std.proofs.Common.{arith, append_assoc, length-append}
-use Rattle.std.specs.Prelude.{All, Result, Ok, Err, IfOk, OnOk}
+use Rattle.std.specs.Prelude.{All, Result, Ok, Err, IfOk}
 use Rattle.std.proofs.lemmas.Bool.{eq-eqb, eqb-true, ne_eqb}
 use Rattle.std.proofs.lemmas.List.{length-map, get_or-map, append-nil}
 use Rattle.std.proofs.lemmas.List.Elements.{All-head, All-weaker, All-tail, All-filter}
@@ -262,9 +262,8 @@ TakeParts-then a b c long first then i d less =
 pub HaveShared-back : {V : Type 0} (back : Result V NoMemory) (items : V → List Lane)
     (opening : Opening) (packets : List Packet) (lanes : List Lane) (after : List Share)
     → IfOk back (λ v. items v ≡ map lane_in after)
-    → OnOk back (All IsDone after)
-    → (All IsDone after → HaveShared opening packets lanes (map lane_in after))
+    → HaveShared opening packets lanes (map lane_in after)
     → IfOk back (λ v. HaveShared opening packets lanes (items v))
-HaveShared-back (Ok v) items opening packets lanes after are done have =
-    subst (HaveShared opening packets lanes) (sym are) (have done)
-HaveShared-back (Err e) items opening packets lanes after are done have = tt
+HaveShared-back (Ok v) items opening packets lanes after are have =
+    subst (HaveShared opening packets lanes) (sym are) have
+HaveShared-back (Err e) items opening packets lanes after are have = tt

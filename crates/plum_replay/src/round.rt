@@ -76,16 +76,13 @@ fn share_out(alloc: Global, lanes: Vec<Lane>, packets: Vec<Packet>) -> Result<Ve
     Ok(shares)
 }
 
-/// The lanes again, unless one of them has not taken all.
+/// The lanes again, which have taken all.
 fn lanes_of(alloc: Global, shares: Vec<Share>) -> Result<Vec<Lane>, NoMemory>
-    ensures lanes { IfOk result (λ lanes. lanes.items ≡ map lane_in shares.items) }
-    ensures done { OnOk result (All IsDone shares.items) }
+    requires { All IsDone shares.items }
+    ensures { IfOk result (λ lanes. lanes.items ≡ map lane_in shares.items) }
 {
     let mut lanes = Vec::new(alloc);
     for share in shares {
-        if !share.is_done() {
-            return Err(NoMemory);
-        }
         lanes.push(share.lane)?;
     }
     Ok(lanes)
@@ -180,6 +177,13 @@ fn side_by_side<R: Threads + Wait + Sync, G: Gate + Sync>(
     fed
 }
 
+/// Whether every lane is done.
+fn are_done(shares: &[Share]) -> bool
+    ensures { result ≡ true → All IsDone shares.now }
+{
+    shares.iter().all(|share| share.is_done())
+}
+
 /// They go again, as long as a lane is not done. Each time the feeder has emptied the queue, so
 /// that a lane goes on by an entry at least, also where no thread is ever made for the feeder.
 fn go_again<R: Threads + Wait + Sync, G: Gate + Sync>(
@@ -193,11 +197,12 @@ fn go_again<R: Threads + Wait + Sync, G: Gate + Sync>(
     requires feed { CanFeed feeder.old }
     requires allowed { feeder.old.refused ≡ false }
     ensures take { OnOk result (TakeParts shares.old shares.new) }
+    ensures done { OnOk result (All IsDone shares.new) }
     ensures fed { HasFed feeder.old feeder.new }
     ensures allowed { OnOk result (feeder.new.refused ≡ false) }
 {
     for _ in rt.forever() {
-        if shares.iter().all(|share| share.is_done()) {
+        if are_done(shares) {
             return Ok(());
         }
         side_by_side(rt, gate, round, shares, &mut [], feeder)?;
