@@ -50,7 +50,7 @@ replays_first id setup sites segment before first lines ahead after centre begun
       replayed = record {
         worked = takes.worked;
         told = record {
-          desks = subst (λ (desks : Vec DeskView Global). AreDesks desks.items setup.rules (λ _. []))
+          desks = subst (λ (ds : Vec DeskView Global). AreDesks ds.items setup.rules (λ _. []))
               (sym same) begun.desks;
           sections_are = AreSections-nil setup.rules;
           counts_ahead = takes.counts_ahead;

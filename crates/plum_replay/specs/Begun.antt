@@ -32,7 +32,8 @@ pub record AreAll (stations : List StationSite) (capture : List ℕ) (left : Opt
 -- These segments lie in what was taken of the capture: its first ones, or all.
 abbrev pub AreTaken : List StationSite → List ℕ → Option (List ℕ) → List (List Decoded) → Type 0
 AreTaken stations capture left segments =
-    AreCut stations capture left segments ⊎ ((tail : ℕ) × AreAll stations capture left segments tail)
+    AreCut stations capture left segments
+    ⊎ ((tail : ℕ) × AreAll stations capture left segments tail)
 
 -- the output of a transcript of the first k of the segments that were taken, with readings at so
 -- many marks: the sections of all but the last of these marks; where they are all and the last mark

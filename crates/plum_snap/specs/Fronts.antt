@@ -34,6 +34,7 @@ abbrev pub Extends : List Entry → List Entry → Type 0
 Extends earlier later = later ≡ earlier ++ drop (length earlier) later
 
 -- Who has published a list shows that these entries are a front of it, and stays as it was.
-pub record ShowsFront {A : Type 0} (published entries : List Entry) (before after : A) : Type 0 where
+pub record ShowsFront {A : Type 0} (published entries : List Entry) (before after : A)
+    : Type 0 where
   pub front : IsPrefix entries published
   pub same : after ≡ before

@@ -43,7 +43,7 @@ fn targets_of(alloc: Global, places: &[(&str, &str, i32)]) -> Result<Vec<TargetS
 }
 
 /// So many stations, from x = 0 on with as many metres between neighbours as `apart` says, their
-/// codes from 1; and targets: the name of each, its area, and its x in metres. Nothing has a factor.
+/// codes from 1; and targets: the name of each, its area, and its x in metres. None has a factor.
 pub fn sites_of(
     alloc: Global,
     stations: u16,

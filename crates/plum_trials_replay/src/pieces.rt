@@ -59,8 +59,8 @@ fn begins_calls(notes: &[u8]) -> bool {
             .all(|(note, call)| note == call || *call == b'?')
 }
 
-/// A host with that capture, which moves whole pieces. The read and the write of these numbers fail,
-/// each counted from 1: none of number 0.
+/// A host with that capture, which moves whole pieces. The read and the write of these numbers
+/// fail, each counted from 1: none of number 0.
 fn failing_at(alloc: Global, read: u32, write: u32) -> Result<NotingHost, NoMemory> {
     let capture = four_segments(alloc)?;
     let host = host_of(alloc, capture, 65_536, &[read], &[write])?;
