@@ -36,14 +36,15 @@ use Rattle.plum_seq.specs.Keys.{kept}
 use Rattle.plum_text.specs.declared.lines.OutLine.TheVariants.{Tail}
 use Rattle.plum_text.specs.declared.lines.PlainLine.{PlainLine}
 use Rattle.plum_text.specs.Lines.{plain_line, out_line}
-use Rattle.plum_text.specs.Texts.{totals_line}
+use Rattle.plum_text.specs.Texts.{refused_lines, totals_line}
 use Rattle.plum.specs.declared.teller.Teller.{Teller}
 use Rattle.plum.specs.declared.teller.Teller.TheVariants.{Watching, Counting}
 use Rattle.plum.specs.Job.{Job, replay, station, check, drill}
 use Rattle.plum.specs.Plain.{AppendsPlainBegun, AreStationLines, BeginsPlainText, IsHistoryOf}
 use Rattle.plum.specs.Plain.{IsTextOver, check_lines, counts_line, packets_of}
-use Rattle.plum.specs.Plain.{refused_line, totals_in, value_line}
+use Rattle.plum.specs.Plain.{totals_in, value_line}
 use Rattle.plum.specs.Telling.{HasToldNothing, HasToldText, IsTellerOf, TellsEnd, TellsOneMore}
+use Rattle.plum.proofs.Tellings.{refused_lines-append}
 use Rattle.plum.proofs.Written.{HasRead, HasWritten, appended_more}
 
 -- nothing begins all bytes
@@ -185,13 +186,13 @@ module _ (laws : TextLaws) (stations : List StationSite) (distinct : AreCodesDis
         let bodies = bodies_of is.segments in
         let front = laws.given stations capture given reader left is.segments is.tail distinct told
         is.capture_is in
-        let first = map refused_line (refused_in given) in
-        let others = map refused_line (refused_in front.0) in
+        let first = refused_lines (refused_in given) in
+        let others = refused_lines (refused_in front.0) in
         let last = Tail is.tail ∷ totals_line (length is.segments) (totals_in bodies) ∷ [] in
         let all : check_lines is.segments is.tail ≡ first ++ (others ++ last) =
-        ap (λ bs. map refused_line (refused_in bs) ++ last) (sym front.1)
-        ∙ ap (λ rs. map refused_line rs ++ last) (refused-append given front.0)
-        ∙ ap (λ l. l ++ last) (map-append refused_line (refused_in given) (refused_in front.0))
+        ap (λ bs. refused_lines (refused_in bs) ++ last) (sym front.1)
+        ∙ ap (λ rs. refused_lines rs ++ last) (refused-append given front.0)
+        ∙ ap (λ l. l ++ last) (refused_lines-append (refused_in given) (refused_in front.0))
         ∙ append_assoc first others last in
         lines_begin out_line text whole first (others ++ last) (check_lines is.segments is.tail)
         has.1 is.text_is all

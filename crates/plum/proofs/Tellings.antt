@@ -13,16 +13,17 @@ use Rattle.plum_packet.specs.declared.bodies.Found.TheVariants.{Mark, Packet, Re
 use Rattle.plum_packet.specs.Bodies.{bodies_of}
 use Rattle.plum_packet.specs.Segments.{Decoded, packets_in, refused_in}
 use Rattle.plum_text.specs.declared.lines.OutLine.{OutLine}
+use Rattle.plum_text.specs.declared.lines.OutLine.TheVariants as told_lines
 use Rattle.plum_text.specs.declared.lines.OutLine.TheVariants.{Tail}
 use Rattle.plum_text.specs.declared.lines.PlainLine.{PlainLine}
 use Rattle.plum_text.specs.declared.lines.PlainLine.TheVariants.{Counts}
 use Rattle.plum_text.specs.Lines.{plain_line, out_line}
-use Rattle.plum_text.specs.Texts.{totals_line}
+use Rattle.plum_text.specs.Texts.{refused_lines, totals_line}
 use Rattle.plum.specs.declared.tally.Tally.{Tally}
 use Rattle.plum.specs.declared.teller.Teller.TheVariants.{Watching, Counting}
 use Rattle.plum.specs.declared.watch.Watch.{Watch}
 use Rattle.plum.specs.Job.{replay, station, check, drill}
-use Rattle.plum.specs.Plain.{value_line, refused_line, packets_of, counts_line, totals_in}
+use Rattle.plum.specs.Plain.{value_line, packets_of, counts_line, totals_in}
 use Rattle.plum.specs.Tallied.{HasTallied}
 use Rattle.plum.specs.Telling.{TellsOneMore, TellsEnd}
 use Rattle.plum.specs.Watched.{HasWatched, WatchesOneMore}
@@ -43,6 +44,12 @@ module _ {L : Type 0} (line : L → List ℕ) where
 
   pub one_line : (told : List ℕ) (l : L) → told ≡ line l → told ≡ flat_map line (l ∷ [])
   one_line told l is = is ∙ sym (append-nil (line l))
+
+-- The lines of refused bodies join.
+pub refused_lines-append : (front rest : List RefusedBody)
+    → refused_lines (front ++ rest) ≡ refused_lines front ++ refused_lines rest
+refused_lines-append front rest =
+    map-append (λ (r : RefusedBody). told_lines.Refused r.number r.fault) front rest
 
 -- What a watch tells of a packet.
 pub watched_packet : (old new : Watch) (p : PacketOf) (line : Option PlainLine) (told : List ℕ)
@@ -87,8 +94,8 @@ pub tallied_mark : (tally : Tally) (told : List ℕ) → told ≡ []
     → TellsOneMore (Counting tally) (Counting tally) Mark told
 tallied_mark tally told none setup stations number bodies text listed (has, text_is) = (
   subst (λ bs. HasTallied tally (length stations) bs) (sym (append-nil bodies)) has,
-  nothing_joins out_line text told (map refused_line (refused_in bodies)) text_is none
-      ∙ ap (λ bs. flat_map out_line (map refused_line (refused_in bs)))
+  nothing_joins out_line text told (refused_lines (refused_in bodies)) text_is none
+      ∙ ap (λ bs. flat_map out_line (refused_lines (refused_in bs)))
       (sym (append-nil bodies)),
 )
 
@@ -99,25 +106,24 @@ pub tallied_packet : (old new : Tally) (p : PacketOf) (told : List ℕ)
 tallied_packet old new p told takes none setup stations number bodies text listed
     (has, text_is) = (
       takes (length stations) number bodies has,
-      nothing_joins out_line text told (map refused_line (refused_in bodies)) text_is none
-          ∙ ap (λ rs. flat_map out_line (map refused_line rs))
+      nothing_joins out_line text told (refused_lines (refused_in bodies)) text_is none
+          ∙ ap (λ rs. flat_map out_line (refused_lines rs))
           (sym (refused-packet bodies number p)),
     )
 
 pub tallied_no_packet : (old new : Tally) (r : RefusedBody) (told : List ℕ)
     → ((stations : ℕ) (bodies : List Decoded) → HasTallied old stations bodies
     → HasTallied new stations (bodies ++ (r.number, Err r.fault) ∷ []))
-    → told ≡ out_line (refused_line r)
+    → told ≡ out_line (told_lines.Refused r.number r.fault)
     → TellsOneMore (Counting old) (Counting new) (Refused r) told
 tallied_no_packet old new r told takes is setup stations number bodies text listed
     (has, text_is) =
     let more = refused-push bodies r.number r.fault in (
       takes (length stations) bodies has,
-      joined out_line text told (map refused_line (refused_in bodies)) (refused_line r ∷ [])
-          text_is (one_line out_line told (refused_line r) is)
+      joined out_line text told (refused_lines (refused_in bodies)) (refused_lines (r ∷ []))
+          text_is (one_line out_line told (told_lines.Refused r.number r.fault) is)
           ∙ ap (flat_map out_line)
-          (sym (ap (map refused_line) more
-          ∙ map-append refused_line (refused_in bodies) (r ∷ []))),
+          (sym (ap refused_lines more ∙ refused_lines-append (refused_in bodies) (r ∷ []))),
     )
 
 -- What is told at the end.
@@ -170,5 +176,5 @@ count_ends tally told count tail totals are is (check s st t c) setup stations s
     is ∙ ap (λ l. out_line (Tail tail) ++ out_line l) line
     ∙ ap (λ l. out_line (Tail tail) ++ l) (sym (append-nil (out_line
     (totals_line (length segments) (totals_in bodies))))) in
-    joined out_line text told (map refused_line (refused_in bodies))
+    joined out_line text told (refused_lines (refused_in bodies))
     (Tail tail ∷ totals_line (length segments) (totals_in bodies) ∷ []) text_is both

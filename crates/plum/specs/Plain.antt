@@ -10,7 +10,6 @@ use Rattle.plum_base.specs.declared.counts.Counts.{Counts as CountsOf}
 use Rattle.plum_base.specs.declared.entry.Entry.{Entry}
 use Rattle.plum_base.specs.declared.numbers.StationNo.{StationNo}
 use Rattle.plum_base.specs.declared.packet.Packet.{Packet}
-use Rattle.plum_base.specs.declared.packet.RefusedBody.{RefusedBody}
 use Rattle.plum_base.specs.declared.setup.Setup.{Setup}
 use Rattle.plum_base.specs.declared.sites.StationSite.{StationSite}
 use Rattle.plum_base.specs.Sites.{IsFoundAt}
@@ -21,11 +20,10 @@ use Rattle.plum_packet.specs.Counts.{counts_in}
 use Rattle.plum_packet.specs.Reading.{IsReadToEnd, MOST_RECORDS}
 use Rattle.plum_packet.specs.Segments.{Decoded, packets_in, refused_in, IsCaptureOf}
 use Rattle.plum_text.specs.declared.lines.OutLine.{OutLine}
-use Rattle.plum_text.specs.declared.lines.OutLine.TheVariants.{Refused, Tail}
 use Rattle.plum_text.specs.declared.lines.PlainLine.{PlainLine}
 use Rattle.plum_text.specs.declared.lines.PlainLine.TheVariants.{Value, Counts}
 use Rattle.plum_text.specs.Lines.{plain_line, out_line}
-use Rattle.plum_text.specs.Texts.{totals_line}
+use Rattle.plum_text.specs.Texts.{refused_lines, end_lines}
 use Rattle.plum_host.specs.declared.host.In.TheVariants as inputs
 use Rattle.plum_host.specs.declared.host.To.TheVariants.{Out, Journal}
 use Rattle.plum_host.specs.Told.{HostView, WhereTold, Appends}
@@ -62,18 +60,15 @@ pub record AreStationLines (setup : Setup) (stations : List StationSite) (code :
   pub lines_are : lines
       ≡ map value_line history ++ counts_line (packets_of found packets) history ∷ []
 
--- the line of a refused body
-abbrev pub refused_line : RefusedBody → OutLine
-refused_line r = Refused r.number r.fault
-
 -- what is counted of these bodies in all; a packet is kept or a repeat by all earlier ones
 abbrev pub totals_in : List Decoded → CountsOf
 totals_in bodies = counts_in bodies (kept (packets_in bodies))
 
--- the lines of a check of these segments and a tail of this length
+-- the lines of a check of these segments and a tail of this length: those of the refused bodies,
+-- and the last two of an output
 abbrev pub check_lines : List (List Decoded) → ℕ → List OutLine
-check_lines segments tail = map refused_line (refused_in (bodies_of segments))
-    ++ Tail tail ∷ totals_line (length segments) (totals_in (bodies_of segments)) ∷ []
+check_lines segments tail = refused_lines (refused_in (bodies_of segments))
+    ++ end_lines tail (length segments) (totals_in (bodies_of segments))
 
 -- the text of a plain command over these segments and a tail of this length
 abbrev pub IsTextOver : Job → Setup → List StationSite → List (List Decoded) → ℕ → List ℕ → Type 0

@@ -9,10 +9,11 @@ use Rattle.plum_packet.specs.declared.bodies.Found.{Found}
 use Rattle.plum_packet.specs.Bodies.{bodies_of, found_as, IsOfListed}
 use Rattle.plum_packet.specs.Segments.{Decoded, packets_in, refused_in}
 use Rattle.plum_text.specs.Lines.{plain_line, out_line}
+use Rattle.plum_text.specs.Texts.{refused_lines}
 use Rattle.plum.specs.declared.teller.Teller.{Teller}
 use Rattle.plum.specs.declared.teller.Teller.TheVariants.{Watching, Counting}
 use Rattle.plum.specs.Job.{Job, replay, station, check, drill}
-use Rattle.plum.specs.Plain.{value_line, refused_line, IsTextOver}
+use Rattle.plum.specs.Plain.{value_line, IsTextOver}
 use Rattle.plum.specs.Tallied.{HasTallied, bodies_in}
 use Rattle.plum.specs.Watched.{HasWatched}
 use Rattle.plum.specs.Watched.{packets_in as packets_watched}
@@ -50,7 +51,7 @@ HasToldText (Watching watch) setup stations bodies text = (history : List Entry)
     × HasWatched watch setup (length stations) (packets_in bodies) history
     × (text ≡ flat_map plain_line (map value_line history))
 HasToldText (Counting tally) setup stations bodies text = HasTallied tally (length stations) bodies
-    × (text ≡ flat_map out_line (map refused_line (refused_in bodies)))
+    × (text ≡ flat_map out_line (refused_lines (refused_in bodies)))
 
 -- A record more was found, and this is told of it.
 abbrev pub TellsOneMore : Teller → Teller → Found → List ℕ → Type 0

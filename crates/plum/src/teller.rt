@@ -12,7 +12,7 @@ ghost use Rattle.plum.specs.Telling.{TellsEnd};
 ghost use Rattle.plum.specs.Watched.{packets_in};
 ghost use Rattle.plum.specs.declared.teller.Teller.TheVariants.{Watching, Counting};
 ghost use Rattle.plum_packet.specs.Bodies.{IsOfListed};
-ghost use Rattle.plum.specs.Plain.{refused_line};
+ghost use Rattle.plum_text.specs.declared.lines.OutLine.TheVariants.{Refused};
 
 use crate::tally::Tally;
 use crate::watch::Watch;
@@ -73,7 +73,8 @@ fn text_of(alloc: Global, line: Option<PlainLine>) -> Result<Bytes, NoMemory>
 
 /// The line of a refused body.
 fn refused_text(alloc: Global, refused: &RefusedBody) -> Result<Bytes, NoMemory>
-    ensures { IfOk result (λ told. told ≡ out_line (refused_line refused.now)) }
+    ensures { IfOk result (λ told.
+        told ≡ out_line (Refused refused.now.number refused.now.fault)) }
 {
     let mut told = Bytes::new(alloc)?;
     write_out(&mut told, &refused_line(refused))?;
@@ -139,7 +140,7 @@ fn count_end(alloc: Global, tally: &Tally, segments: u32, tail: u32) -> Result<B
 
 /// The fields of the line of a refused body.
 fn refused_line(refused: &RefusedBody) -> OutLine
-    ensures { result ≡ refused_line refused.now }
+    ensures { result ≡ Refused refused.now.number refused.now.fault }
 {
     OutLine::Refused {
         number: refused.number,
