@@ -42,7 +42,7 @@ use Rattle.plum.specs.declared.teller.Teller.TheVariants.{Watching, Counting}
 use Rattle.plum.specs.Job.{Job, replay, station, check, drill}
 use Rattle.plum.specs.Plain.{AppendsPlainBegun, AreStationLines, BeginsPlainText, IsHistoryOf}
 use Rattle.plum.specs.Plain.{IsTextOver, check_lines, counts_line, packets_of}
-use Rattle.plum.specs.Plain.{totals_in, value_line}
+use Rattle.plum.specs.Plain.{totals_of_bodies, value_line}
 use Rattle.plum.specs.Telling.{HasToldNothing, HasToldText, IsTellerOf, TellsEnd, TellsOneMore}
 use Rattle.plum.proofs.Tellings.{refused_lines-append}
 use Rattle.plum.proofs.Written.{HasRead, HasWritten, appended_more}
@@ -188,7 +188,7 @@ module _ (laws : TextLaws) (stations : List StationSite) (distinct : AreCodesDis
         is.capture_is in
         let first = refused_lines (refused_in given) in
         let others = refused_lines (refused_in front.0) in
-        let last = Tail is.tail ∷ totals_line (length is.segments) (totals_in bodies) ∷ [] in
+        let last = Tail is.tail ∷ totals_line (length is.segments) (totals_of_bodies bodies) ∷ [] in
         let all : check_lines is.segments is.tail ≡ first ++ (others ++ last) =
         ap (λ bs. refused_lines (refused_in bs) ++ last) (sym front.1)
         ∙ ap (λ rs. refused_lines rs ++ last) (refused-append given front.0)

@@ -28,7 +28,7 @@ use Rattle.plum.specs.DrillCapture.{drill_capture}
 use Rattle.plum.specs.DrillSetup.{drill_setup}
 use Rattle.plum.specs.DrillSummary.{DRILL_LANES, ArePredicted, IsDrillSummary, answers_at}
 use Rattle.plum.specs.DrillSummary.{drill_sites}
-use Rattle.plum.specs.Plain.{totals_in}
+use Rattle.plum.specs.Plain.{totals_of_bodies}
 use Rattle.plum.specs.Summarized.{HaveAnswers, last_answers}
 use Rattle.plum.proofs.Shown.{are_predicted, have_answers, last_values, session_answers}
 use Rattle.plum.proofs.Shown.{values_after}
@@ -76,7 +76,7 @@ module _ (laws : DrillLaws) (setup : Setup) (sites : SitesView) (totals : Totals
       ∙ ap (sum_by f) replay.sections_are.counts
 
   counted : AddUp (counts_in_all totals)
-      → counts_in_all totals ≡ totals_in (bodies_of through.0.replay.segments)
+      → counts_in_all totals ≡ totals_of_bodies (bodies_of through.0.replay.segments)
   counted sums =
       let is = through.0.totals_are in
       totals_are laws.parts laws.add_up through.0.replay.segments (counts_in_all totals) sums
@@ -125,6 +125,6 @@ module _ (laws : DrillLaws) (setup : Setup) (sites : SitesView) (totals : Totals
             (counted sums)
             ∙ ap (λ (s : SitesView). plain_line (Drill seed stations seconds)
             ++ out_line (totals_line (length replay.segments)
-            (totals_in (bodies_of replay.segments)))
+            (totals_of_bodies (bodies_of replay.segments)))
             ++ flat_map out_line (answers_at (length replay.segments) s.targets answers)) drilled;
       }

@@ -16,7 +16,7 @@ use Rattle.plum_packet.specs.Bodies.{bodies_of}
 use Rattle.plum_packet.specs.Counts.{counts_after, counts_in, counts_of}
 use Rattle.plum_packet.specs.Laws.{CountsAddUp}
 use Rattle.plum_packet.specs.Segments.{Decoded, packets_in, refused_in}
-use Rattle.plum.specs.Plain.{totals_in}
+use Rattle.plum.specs.Plain.{totals_of_bodies}
 
 pub packets_in-append : (xs ys : List Decoded)
     → packets_in (xs ++ ys) ≡ packets_in xs ++ packets_in ys
@@ -124,12 +124,13 @@ pub totals_are : KeptInParts → CountsAddUp → (segments : List (List Decoded)
     → c.bodies ≡ sum_by (λ c. c.bodies) (counts_of segments)
     → c.kept ≡ sum_by (λ c. c.kept) (counts_of segments)
     → c.refused ≡ sum_by (λ c. c.refused) (counts_of segments)
-    → c ≡ totals_in (bodies_of segments)
+    → c ≡ totals_of_bodies (bodies_of segments)
 totals_are parts add_up segments c sums bodies kept refused =
-    let all : AddUp (totals_in (bodies_of segments)) = (add_up (bodies_of segments ∷ [])).0 in
+    let totals = totals_of_bodies (bodies_of segments) in
+    let all : AddUp totals = (add_up (bodies_of segments ∷ [])).0 in
     let same_bodies = bodies ∙ bodies_summed [] segments in
     let same_kept = kept ∙ kept_summed parts [] segments in
     let same_refused = refused ∙ refused_summed [] segments in
-    let same_repeats : c.repeats ≡ (totals_in (bodies_of segments)).repeats =
+    let same_repeats : c.repeats ≡ totals.repeats =
     omega (arith, all, sums, same_bodies, same_kept, same_refused) in
-    same_counts c (totals_in (bodies_of segments)) same_bodies same_kept same_repeats same_refused
+    same_counts c totals same_bodies same_kept same_repeats same_refused

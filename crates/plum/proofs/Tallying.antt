@@ -19,7 +19,7 @@ use Rattle.plum_packet.specs.Segments.{Decoded, packets_in, refused_in}
 use Rattle.plum.specs.declared.tally.Tally.{Tally}
 use Rattle.plum_text.specs.declared.lines.OutLine.TheVariants.{Totals}
 use Rattle.plum_text.specs.Texts.{totals_line}
-use Rattle.plum.specs.Plain.{totals_in}
+use Rattle.plum.specs.Plain.{totals_of_bodies}
 use Rattle.plum.specs.Tallied.{HasTallied}
 
 -- the packets and the refused bodies, one body more
@@ -195,7 +195,7 @@ all_decoded ((n, Err fault) ∷ bodies) = omega (arith, all_decoded bodies)
 pub totals_are : (tally : Tally) (stations : ℕ) (bodies : List Decoded)
     → HasTallied tally stations bodies → (segments : ℕ)
     → Totals segments (tally.kept + tally.repeats + tally.refused) tally.kept tally.repeats
-    tally.refused ≡ totals_line segments (totals_in bodies)
+    tally.refused ≡ totals_line segments (totals_of_bodies bodies)
 totals_are tally stations bodies has segments =
     let all : tally.kept + tally.repeats + tally.refused ≡ length bodies =
     omega (arith, has.packets, has.refused, all_decoded bodies) in

@@ -23,7 +23,7 @@ use Rattle.plum.specs.declared.tally.Tally.{Tally}
 use Rattle.plum.specs.declared.teller.Teller.TheVariants.{Watching, Counting}
 use Rattle.plum.specs.declared.watch.Watch.{Watch}
 use Rattle.plum.specs.Job.{replay, station, check, drill}
-use Rattle.plum.specs.Plain.{value_line, packets_of, counts_line, totals_in}
+use Rattle.plum.specs.Plain.{value_line, packets_of, counts_line, totals_of_bodies}
 use Rattle.plum.specs.Tallied.{HasTallied}
 use Rattle.plum.specs.Telling.{TellsOneMore, TellsEnd}
 use Rattle.plum.specs.Watched.{HasWatched, WatchesOneMore}
@@ -158,7 +158,7 @@ watch_ends watch told count tail is (station s st c n) setup stations segments t
 
 pub count_ends : (tally : Tally) (told : List ℕ) (count tail : ℕ) (totals : OutLine)
     → ((stations : ℕ) (bodies : List Decoded) → HasTallied tally stations bodies
-    → totals ≡ totals_line count (totals_in bodies))
+    → totals ≡ totals_line count (totals_of_bodies bodies))
     → told ≡ out_line (Tail tail) ++ out_line totals → TellsEnd (Counting tally) count tail told
 count_ends tally told count tail totals are is (replay s st t c j) setup stations segments text it
     long has = absurd it
@@ -170,11 +170,11 @@ count_ends tally told count tail totals are is (check s st t c) setup stations s
     long (has, text_is) =
     let bodies = bodies_of segments in
     let line = are (length stations) bodies has
-    ∙ ap (λ n. totals_line n (totals_in bodies)) long in
+    ∙ ap (λ n. totals_line n (totals_of_bodies bodies)) long in
     let both : told ≡ flat_map out_line (Tail tail ∷ totals_line (length segments)
-    (totals_in bodies) ∷ []) =
+    (totals_of_bodies bodies) ∷ []) =
     is ∙ ap (λ l. out_line (Tail tail) ++ out_line l) line
     ∙ ap (λ l. out_line (Tail tail) ++ l) (sym (append-nil (out_line
-    (totals_line (length segments) (totals_in bodies))))) in
+    (totals_line (length segments) (totals_of_bodies bodies))))) in
     joined out_line text told (refused_lines (refused_in bodies))
-    (Tail tail ∷ totals_line (length segments) (totals_in bodies) ∷ []) text_is both
+    (Tail tail ∷ totals_line (length segments) (totals_of_bodies bodies) ∷ []) text_is both

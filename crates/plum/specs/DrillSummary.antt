@@ -24,7 +24,7 @@ use Rattle.plum_text.specs.Texts.{answer_lines, totals_line}
 use Rattle.plum.specs.DrillCapture.{drill_capture}
 use Rattle.plum.specs.DrillSetup.{drill_setup}
 use Rattle.plum.specs.DrillSites.{drill_stations, drill_targets}
-use Rattle.plum.specs.Plain.{LeavesJournal, totals_in}
+use Rattle.plum.specs.Plain.{LeavesJournal, totals_of_bodies}
 
 -- with how many lanes a drill is replayed
 abbrev pub DRILL_LANES : ℕ
@@ -67,7 +67,7 @@ pub record IsDrillSummary (seed stations seconds : ℕ) (text : List ℕ) : Type
   pub answers_are : AllZip (ArePredicted (drill_sites stations) values)
       (areas_of drill_targets) answers
   pub text_is : text ≡ plain_line (Drill seed stations seconds)
-      ++ out_line (totals_line (length segments) (totals_in (bodies_of segments)))
+      ++ out_line (totals_line (length segments) (totals_of_bodies (bodies_of segments)))
       ++ flat_map out_line (answers_at (length segments) drill_targets answers)
 
 -- The summary is appended to the output, and nothing to the journal.

@@ -61,14 +61,14 @@ pub record AreStationLines (setup : Setup) (stations : List StationSite) (code :
       ≡ map value_line history ++ counts_line (packets_of found packets) history ∷ []
 
 -- what is counted of these bodies in all; a packet is kept or a repeat by all earlier ones
-abbrev pub totals_in : List Decoded → CountsOf
-totals_in bodies = counts_in bodies (kept (packets_in bodies))
+abbrev pub totals_of_bodies : List Decoded → CountsOf
+totals_of_bodies bodies = counts_in bodies (kept (packets_in bodies))
 
 -- the lines of a check of these segments and a tail of this length: those of the refused bodies,
 -- and the last two of an output
 abbrev pub check_lines : List (List Decoded) → ℕ → List OutLine
 check_lines segments tail = refused_lines (refused_in (bodies_of segments))
-    ++ end_lines tail (length segments) (totals_in (bodies_of segments))
+    ++ end_lines tail (length segments) (totals_of_bodies (bodies_of segments))
 
 -- the text of a plain command over these segments and a tail of this length
 abbrev pub IsTextOver : Job → Setup → List StationSite → List (List Decoded) → ℕ → List ℕ → Type 0

@@ -8,7 +8,7 @@ ghost use Rattle.plum_packet.specs.Segments.{Decoded};
 ghost use Rattle.plum_seq.specs.Keys.{is_above_all};
 ghost use Rattle.plum_seq.specs.Verdicts.{IsVerdict};
 ghost use Rattle.plum_text.specs.Texts.{totals_line};
-ghost use Rattle.plum.specs.Plain.{totals_in};
+ghost use Rattle.plum.specs.Plain.{totals_of_bodies};
 ghost use Rattle.plum.specs.Tallied.{HasTallied, bodies_in};
 
 use plum_base::{NoMemory, Packet};
@@ -100,7 +100,7 @@ impl Tally {
     pub fn totals_line(&self, segments: u32) -> OutLine
         requires few { bodies_in self.now < 2 ^ 32 }
         ensures { (stations : ℕ) (bodies : List Decoded) → HasTallied self.now stations bodies
-            → result ≡ totals_line segments (totals_in bodies) }
+            → result ≡ totals_line segments (totals_of_bodies bodies) }
     {
         OutLine::Totals {
             segments,
