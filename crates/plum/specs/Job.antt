@@ -122,7 +122,7 @@ IsCheck (station setup stations capture code) = ⊥
 IsCheck (check setup stations targets capture) = ⊤
 IsCheck (drill seed stations seconds) = ⊥
 
--- It is a plain command: one that writes no journal.
+-- It is a plain command, `station` or `check`: it reads a capture, and replays nothing.
 abbrev pub IsPlain : Job → Type 0
 IsPlain (replay setup stations targets capture journal) = ⊥
 IsPlain (station setup stations capture code) = ⊤

@@ -1,10 +1,10 @@
 //! plum: an earthquake early warning centre that replays captures.
 //!
-//! It owns the words, the statuses, the order in which the files are read, the commands that write
-//! no journal, and the files and the summary of a drill. It promises `run` and `run_plain`: how
-//! each call ends, and what stands in the outputs then; and `drill_host`: which files a drill has.
-//! It must not know what a file states, how a replay is done, how a body becomes a packet, which
-//! packets are kept, or how a line is spelled.
+//! It owns the words, the statuses, the order in which the files are read, the plain commands
+//! (`station` and `check`, which replay nothing), and the files and the summary of a drill. It
+//! promises `run` and `run_plain`: how each call ends, and what stands in the outputs then; and
+//! `drill_host`: which files a drill has. It must not know what a file states, how a replay is
+//! done, how a body becomes a packet, which packets are kept, or how a line is spelled.
 #![tactic(auto)]
 
 mod drill;
