@@ -41,7 +41,7 @@ use Rattle.plum.specs.declared.teller.Teller.{Teller}
 use Rattle.plum.specs.declared.teller.Teller.TheVariants.{Watching, Counting}
 use Rattle.plum.specs.Job.{Job, replay, station, check, drill}
 use Rattle.plum.specs.Plain.{AppendsPlainBegun, AreStationLines, BeginsPlainText, IsHistoryOf}
-use Rattle.plum.specs.Plain.{IsTextOver, check_lines, counts_line, packets_of}
+use Rattle.plum.specs.Plain.{IsPlainText, IsTextOver, check_lines, counts_line, packets_of}
 use Rattle.plum.specs.Plain.{totals_of_bodies, value_line}
 use Rattle.plum.specs.Telling.{HasToldNothing, HasToldText, IsTellerOf, TellsEnd, TellsOneMore}
 use Rattle.plum.proofs.Tellings.{refused_lines-append}
@@ -98,13 +98,13 @@ no_site = record {
 }
 
 -- No listed station has a code that none has.
-none_has : (stations : List StationSite) (n code : ℕ) → HasNoCode stations code
+pub none_has : (stations : List StationSite) (n code : ℕ) → HasNoCode stations code
     → HasCode stations n code → ⊥
 none_has stations n code none has =
     let at = listed_code stations n code has in none n no_site at.0 (at.1 no_site)
 
 -- Where codes are distinct, one station is found at a code, or none.
-one_found : (stations : List StationSite) (code : ℕ) (some other : Option StationNo)
+pub one_found : (stations : List StationSite) (code : ℕ) (some other : Option StationNo)
     → AreCodesDistinct stations → IsFoundAt stations code some → IsFoundAt stations code other
     → some ≡ other
 one_found stations code None None distinct a b = refl
@@ -224,30 +224,40 @@ module _ (laws : TextLaws) (stations : List StationSite) (distinct : AreCodesDis
         same ∙ sym a.lines_are)
         ∙ sym text_is
 
-    -- The text over the whole capture is the one that it has.
-    whole_text_begins : (job : Job) (setup : Setup) (capture : List ℕ)
-        (segments : List (List Decoded)) (tail : ℕ) (text : List ℕ)
+    -- The text over the whole capture is the one that it has,
+    pub one_whole_text : (job : Job) (setup : Setup) (capture : List ℕ)
+        (segments : List (List Decoded)) (tail : ℕ) (text whole : List ℕ)
         → IsCaptureOf stations capture segments tail
         → IsTextOver job setup stations segments tail text
-        → BeginsPlainText job setup stations capture text
-    whole_text_begins (replay s st t c j) setup capture segments tail text of over whole is =
+        → IsPlainText job setup stations capture whole → whole ≡ text
+    one_whole_text (replay s st t c j) setup capture segments tail text whole of over is =
         absurd over
-    whole_text_begins (drill n m k) setup capture segments tail text of over whole is = absurd over
-    whole_text_begins (station s st c code) setup capture segments tail text of over whole is =
+    one_whole_text (drill n m k) setup capture segments tail text whole of over is = absurd over
+    one_whole_text (station s st c code) setup capture segments tail text whole of over is =
         let same = laws.decoded stations capture is.segments segments is.tail tail distinct
         is.capture_is of in
         let it : Job = station s st c code in
         let other : IsTextOver it setup stations segments is.tail whole =
         subst (λ ss. IsTextOver it setup stations ss is.tail whole) same.0 is.text_is in
-        let one = one_station_text setup code (bodies_of segments) text whole over.0 other.0 over.1
-        over.2 other.1 other.2 in
-        ([], append-nil text ∙ sym one)
-    whole_text_begins (check s st t c) setup capture segments tail text of over whole is =
+        one_station_text setup code (bodies_of segments) text whole over.0 other.0 over.1
+        over.2 other.1 other.2
+    one_whole_text (check s st t c) setup capture segments tail text whole of over is =
         let same = laws.decoded stations capture is.segments segments is.tail tail distinct
         is.capture_is of in
         let lines : check_lines is.segments is.tail ≡ check_lines segments tail =
         ap (λ ss. check_lines ss is.tail) same.0 ∙ ap (check_lines segments) same.1 in
-        ([], append-nil text ∙ over ∙ ap (flat_map out_line) (sym lines) ∙ sym is.text_is)
+        is.text_is ∙ ap (flat_map out_line) lines ∙ sym over
+
+    -- which begins with it.
+    whole_text_begins : (job : Job) (setup : Setup) (capture : List ℕ)
+        (segments : List (List Decoded)) (tail : ℕ) (text : List ℕ)
+        → IsCaptureOf stations capture segments tail
+        → IsTextOver job setup stations segments tail text
+        → BeginsPlainText job setup stations capture text
+    whole_text_begins job setup capture segments tail text of over whole is = (
+      [],
+      append-nil text ∙ sym (one_whole_text job setup capture segments tail text whole of over is),
+    )
 
     module _ (first old : Teller) (capture : List ℕ) (reader : BodiesView)
         (before now read : HostView)

@@ -8,7 +8,7 @@ use Rattle.std.proofs.lemmas.List.{length-map}
 use Rattle.std.proofs.lemmas.List.FromFn.{get_or-map-range_with_len, length-map-range_with_len}
 use Rattle.std.specs.List.{range_with_len, All, AllPairs}
 use Rattle.plum_base.specs.Levels.{IsFactor}
-use Rattle.plum_base.specs.Sites.{AreStations, AreTargets, IsCoordinate, IsPlace}
+use Rattle.plum_base.specs.Sites.{AreCodesDistinct, AreStations, AreTargets, IsCoordinate, IsPlace}
 use Rattle.plum_base.specs.Sites.{first_appearances}
 use Rattle.plum.specs.DrillFiles.{MOST_DRILL_STATIONS}
 use Rattle.plum.specs.DrillSites.{DRILL_TARGETS, drill_station, drill_stations, drill_target}
@@ -87,14 +87,18 @@ few_appear (x ∷ xs) =
           (first_appearances xs),
     )
 
+-- no two stations have one code, however many there are
+pub drill_codes_differ : (stations : ℕ) → AreCodesDistinct (drill_stations stations)
+drill_codes_differ stations = pairs_in_range (λ a b. a.code ≢ b.code) drill_station stations
+    (λ i j before within. codes_differ i j before)
+
 pub stations_are_lawful : (stations : ℕ) → stations ≤ MOST_DRILL_STATIONS
     → AreStations (drill_stations stations)
 stations_are_lawful stations few = record {
   few = omega (arith, length-map-range_with_len drill_station 0 stations);
   in_range = all_in_range (λ s. IsPlace s.at × IsFactor s.factor) drill_station stations
       (λ i within. station_in_range i (omega arith));
-  codes = pairs_in_range (λ a b. a.code ≢ b.code) drill_station stations
-      (λ i j before within. codes_differ i j before);
+  codes = drill_codes_differ stations;
 }
 
 pub targets_are_lawful : AreTargets drill_targets

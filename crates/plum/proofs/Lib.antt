@@ -20,3 +20,8 @@ pub mod Shown
 pub mod Summaries
 pub mod Lawful
 pub mod DrillEnds
+pub mod SameSetup
+pub mod Decoding
+pub mod EachText
+pub mod OneText
+pub mod OneSummary

@@ -76,6 +76,7 @@ module _ (job : Job) (plain : IsPlain job) (setup : Setup) (sites : SitesView)
     output = inr (record {
       setup = setup;
       stations = sites.stations;
+      table = read.table;
       setup_is = read.stated.setup_is;
       stations_are = read.stated.stations_are;
       begun = λ capture told.
@@ -94,6 +95,7 @@ module _ (job : Job) (plain : IsPlain job) (setup : Setup) (sites : SitesView)
   told_from tells = record {
     setup = setup;
     stations = sites.stations;
+    table = read.table;
     setup_is = read.stated.setup_is;
     stations_are = read.stated.stations_are;
     tells = λ capture told.

@@ -1,6 +1,7 @@
 -- How the work of a call ended, and what it did until then.
 use Rattle.std.specs.Prelude.{◌≡◌, ◌≤◌, true}
 use Rattle.plum_base.specs.declared.setup.Setup.{Setup}
+use Rattle.plum_base.specs.Levels.{IsLevelTable}
 use Rattle.plum_base.specs.Sites.{SitesView}
 use Rattle.plum_host.specs.declared.host.In.{In}
 use Rattle.plum_host.specs.declared.host.In.TheVariants as inputs
@@ -65,11 +66,12 @@ pub record IsAtTurn (file : In) (before now : HostView) : Type 0 where
   pub outputs : LeavesOutputs before now
   pub counts : CountsNothing before now
 
--- The files that the command uses are read, and state this setup and these sites; the capture has
--- its turn.
+-- The files that the command uses are read, and state this setup, whose table is lawful, and these
+-- sites; the capture has its turn.
 pub record AreRead (job : Job) (setup : Setup) (sites : SitesView) (before now : HostView)
     : Type 0 where
   pub files : uses_files job ≡ true
   pub stated : FilesState job before setup sites
+  pub table : IsLevelTable setup.levels
   pub at_turn : IsAtTurn inputs.Capture before now
   pub unused : LeavesUnused job before now

@@ -17,3 +17,4 @@ pub mod DrillSetup
 pub mod DrillFiles
 pub mod DrillSummary
 pub mod Summarized
+pub mod Laws

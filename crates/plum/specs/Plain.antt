@@ -12,6 +12,7 @@ use Rattle.plum_base.specs.declared.numbers.StationNo.{StationNo}
 use Rattle.plum_base.specs.declared.packet.Packet.{Packet}
 use Rattle.plum_base.specs.declared.setup.Setup.{Setup}
 use Rattle.plum_base.specs.declared.sites.StationSite.{StationSite}
+use Rattle.plum_base.specs.Levels.{IsLevelTable}
 use Rattle.plum_base.specs.Sites.{IsFoundAt}
 use Rattle.plum_seq.specs.Keys.{of_station, kept}
 use Rattle.plum_core.specs.History.{IsValidHistory, HoldsKept}
@@ -117,10 +118,11 @@ AppendsPlainBegun job setup stations capture before after = (bytes : List ℕ)
     × Appends (before.held Out) (after.held Out) bytes
 
 -- The text is appended for the setup and the stations that the files state, where the host tells
--- the capture.
+-- the capture. The setup's table is lawful.
 pub record TellsFiles (job : Job) (before after : HostView) : Type 0 where
   pub setup : Setup
   pub stations : List StationSite
+  pub table : IsLevelTable setup.levels
   pub setup_is : WhereTold before inputs.Setup (IsSetupFile setup)
   pub stations_are : WhereTold before inputs.Stations (IsStationFile stations)
   pub tells : WhereTold before inputs.Capture (λ capture.
@@ -130,6 +132,7 @@ pub record TellsFiles (job : Job) (before after : HostView) : Type 0 where
 pub record BeginsTelling (job : Job) (before after : HostView) : Type 0 where
   pub setup : Setup
   pub stations : List StationSite
+  pub table : IsLevelTable setup.levels
   pub setup_is : WhereTold before inputs.Setup (IsSetupFile setup)
   pub stations_are : WhereTold before inputs.Stations (IsStationFile stations)
   pub begun : WhereTold before inputs.Capture (λ capture.

@@ -11,6 +11,7 @@ mod drill;
 mod files;
 mod grammar;
 mod job;
+mod laws;
 mod opening;
 mod run;
 mod status;
@@ -23,6 +24,7 @@ mod work;
 
 pub use drill::drill_host;
 pub use job::paths_of;
+pub use laws::{drills_have_one_summary, plain_commands_have_one_text};
 use plum_base::NoMemory;
 use plum_host::StdHost;
 use plum_replay::OpenGate;

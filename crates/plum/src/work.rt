@@ -104,6 +104,8 @@ fn load_files<H: Host>(alloc: Global, with_targets: bool, host: &mut H) -> Resul
         HasEnded job status (H.told host.old) (H.told host.new)) }
 {
     let setup = load_setup(alloc, host)?;
+    // For the contract: the thresholds are a table.
+    setup.levels.thresholds();
     let stations = load_stations(alloc, host)?;
     let targets = load_wanted_targets(alloc, with_targets, host)?;
     let sites = Sites::new(alloc, stations, targets)?;

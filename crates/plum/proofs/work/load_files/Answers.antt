@@ -87,6 +87,7 @@ are_read g c job files same =
             (IsTargetFile c.in_ok-targets.targets.items) (stations_read g c)
             (c.in_ok-targets.ensures.stated (sym same ∙ used));
       };
+      table = c.thresholds.ensures.table;
       at_turn = files_read g c;
       unused = unused_before_capture job first (at c.load_stations.new.host)
           (at c.load_wanted_targets.new.host) files (stations_read g c) (files_read g c)
