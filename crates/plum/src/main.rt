@@ -36,6 +36,7 @@ use std::process::ExitCode;
 use std::rt::{Env, Files};
 use std::sync::Wait;
 use std::thread::Threads;
+pub use words::clap_reads_the_grammar;
 
 /// Does what the words of the command line ask for over files and standard output. Words that are
 /// no text are not of the grammar.
