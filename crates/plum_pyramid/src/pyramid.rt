@@ -1,6 +1,6 @@
 //! The pyramid.
 
-ghost use Rattle.std.specs.Prelude.{◌≡◌, ◌<◌, List, [], ◌∷◌, ◌++◌, length, IfOk, IfSome};
+ghost use Rattle.std.specs.Prelude.{◌≡◌, ◌<◌, List, [], ◌∷◌, ◌++◌, length, true, IfOk, IfSome};
 ghost use Rattle.plum_base.specs.declared.sites.StationSite.{StationSite};
 ghost use Rattle.plum_base.specs.Sites.{IsPlace};
 ghost use Rattle.plum_geo.specs.Prediction.{IsOnScale, IsBest};
@@ -68,6 +68,10 @@ impl Pyramid {
             (record { station = station; value = value }) }
     {
         let number = station.0 as usize;
+        if is_same(self.values[number], value) {
+            // Most of a station's values are the one that it has.
+            return;
+        }
         self.values[number] = value;
         renew(
             &self.layout,
@@ -96,4 +100,11 @@ impl Pyramid {
             at,
         )
     }
+}
+
+/// Whether two values are the same.
+fn is_same(a: Option<Tenths>, b: Option<Tenths>) -> bool
+    ensures { result ≡ true → a ≡ b }
+{
+    a == b
 }

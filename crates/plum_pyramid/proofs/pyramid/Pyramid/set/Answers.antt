@@ -1,6 +1,6 @@
-use Rattle.std.proofs.Common.{◌≡◌, List, [], ◌∷◌, ◌++◌, length, set, Option, sym, ap, subst, arith}
+use Rattle.std.proofs.Common.{◌≡◌, ◌∙◌, List, [], ◌∷◌, ◌++◌, length, set, Option, sym, ap, subst, arith}
 use Rattle.std.proofs.Common.{length-set}
-use Rattle.std.proofs.lemmas.List.{with_items_is}
+use Rattle.std.proofs.lemmas.List.{with_items_is, set-get_or}
 use Rattle.plum_base.specs.declared.numbers.Tenths.{Tenths}
 use Rattle.plum_pyramid.specs.Cells.{HasValues, AreMaxima, AreMaximaWithout, IsRenewed}
 use Rattle.plum_pyramid.specs.Pyramid.{PyramidView, Setting, StandsFor, pyramid_after}
@@ -82,4 +82,32 @@ returns-clause-stands c = λ stations settings stands.
     let exists = c.requires.exists in
     let same = ap length stands.same_stations in
     subst (λ (p : PyramidView). StandsFor p stations (settings ++ s ∷ [])) (sym exact)
+    (StandsFor-set c.args.self.now stations settings s (omega arith) stands)
+
+-- The station has the value, and each square its maximum.
+stays : (c : goal.Then-is_same) → c.args.self.now ≡ pyramid_after c.args.self.now
+    (record { station = c.args.station; value = c.args.value })
+stays c =
+    let s : Setting = record { station = c.args.station; value = c.args.value } in
+    let stations = c.self.inside.layout.stations.items in
+    let values = c.self.inside.values.items in
+    let found = c.index.result.now in
+    let number = c.args.station.0 in
+    let unchanged : set values number found ≡ values =
+    ap (λ v. set values number v) c.index.ensures ∙ set-get_or values number found in
+    let same : set values number c.args.value ≡ values =
+    subst (λ v. set values number v ≡ values) (c.is_same.ensures c.if-is_same.true) unchanged in
+    subst (λ (p : PyramidView). p ≡ pyramid_after p s) c.self.view_is
+    (ap (λ (vs : List (Option Tenths)). record { stations = stations; values = vs })
+    (sym same))
+
+pub returns-then-is_same-clause-exact : goal.returns-then-is_same-clause-exact
+returns-then-is_same-clause-exact c = stays c
+
+pub returns-then-is_same-clause-stands : goal.returns-then-is_same-clause-stands
+returns-then-is_same-clause-stands c = λ stations settings stands.
+    let s : Setting = record { station = c.args.station; value = c.args.value } in
+    let exists = c.requires.exists in
+    let same = ap length stands.same_stations in
+    subst (λ (p : PyramidView). StandsFor p stations (settings ++ s ∷ [])) (sym (stays c))
     (StandsFor-set c.args.self.now stations settings s (omega arith) stands)
