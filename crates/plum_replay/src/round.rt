@@ -27,9 +27,9 @@ use plum_lanes::Lane;
 use plum_snap::Session;
 use std::alloc::Global;
 use std::collections::VecDeque;
-use std::mem;
 use std::sync::Wait;
 use std::thread::{Threads, join_mut};
+use std::{mem, thread};
 
 /// The number of a lane or of a session, for the gate. There are far fewer.
 fn number_of(i: usize) -> u16 {
@@ -117,7 +117,8 @@ fn sessions_of(alloc: Global, watches: Vec<Watch>) -> Result<Vec<Session>, NoMem
     Ok(sessions)
 }
 
-/// The lanes take their packets while the sessions read.
+/// The lanes take their packets while the sessions read, on no more threads than there are lanes:
+/// a reading is short, and a thread for it costs as much again.
 fn take_and_look<R: Threads + Wait + Sync, G: Gate + Sync>(
     rt: &R,
     gate: &G,
@@ -130,11 +131,12 @@ fn take_and_look<R: Threads + Wait + Sync, G: Gate + Sync>(
     ensures take { TakeParts shares.old shares.new }
     ensures look { AllLook watches.old watches.new }
 {
+    let threads = shares.len();
     join_mut(
         rt,
         &mut ||
             ensures { AllLook watches.entry.now watches.exit.now }
-        { look_all(rt, gate, round, signals, watches) },
+        { look_all(rt, gate, round, signals, threads, watches) },
         &mut ||
             requires { (opening : Opening) × CanTakeParts opening shares.now }
             ensures { TakeParts shares.entry.now shares.exit.now }
@@ -172,7 +174,11 @@ fn side_by_side<R: Threads + Wait + Sync, G: Gate + Sync>(
             requires { (opening : Opening) × CanTakeParts opening shares.now }
             ensures { TakeParts shares.entry.now shares.exit.now
                 × AllLook watches.entry.now watches.exit.now }
-        { take_and_look(rt, gate, round, &signals, shares, watches) },
+        {
+            // The feeder's thread may stand behind this one: it is to begin before the lanes do.
+            thread::yield_now();
+            take_and_look(rt, gate, round, &signals, shares, watches)
+        },
     );
     fed
 }

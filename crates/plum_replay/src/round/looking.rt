@@ -56,27 +56,25 @@ fn look<R: Wait, G: Gate>(
     unreachable!()
 }
 
-/// All sessions read, on threads.
+/// All sessions read, on so many threads at most.
 pub fn look_all<R: Threads + Wait + Sync, G: Gate + Sync>(
     rt: &R,
     gate: &G,
     round: u32,
     signals: &Signals,
+    threads: usize,
     watches: &mut [Watch],
 )
     ensures { AllLook watches.old watches.new }
 {
-    let count = watches.len();
-    if count > 0 {
-        for_each_mut(
-            rt,
-            watches,
-            count,
-            &|a, watch|
-                ensures { Looks watch.entry.now watch.exit.now }
-            {
-                watch.done = look(rt, gate, round, number_of(a), signals, &mut watch.session);
-            },
-        );
-    }
+    for_each_mut(
+        rt,
+        watches,
+        threads.max(1),
+        &|a, watch|
+            ensures { Looks watch.entry.now watch.exit.now }
+        {
+            watch.done = look(rt, gate, round, number_of(a), signals, &mut watch.session);
+        },
+    );
 }

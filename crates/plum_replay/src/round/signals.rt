@@ -7,7 +7,7 @@ use std::time::Duration;
 
 /// For how many microseconds the feeder rests at most at an empty queue. It takes the lanes longer
 /// to fill a queue of some hundred places.
-const REST: u64 = 50;
+const REST: u64 = 200;
 
 /// Words without a rule: they decide when a loop ends, and no contract speaks of them.
 #[derive(Drop)]
