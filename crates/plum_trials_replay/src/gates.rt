@@ -120,3 +120,46 @@ impl Gate for Within {
         }
     }
 }
+
+/// Counts the calls of each lane and of each session by its number: those of the first two, and
+/// those of all others, one in a million of the other.
+#[derive(Drop)]
+pub struct Numbers {
+    lanes: AtomicU64,
+    readings: AtomicU64,
+}
+
+/// What a call of this number adds.
+fn call_of(number: u16) -> u64 {
+    match number {
+        0 => 1,
+        1 => 1_000_000,
+        _ => 1_000_000_000_000,
+    }
+}
+
+impl Numbers {
+    pub fn new() -> Numbers {
+        Numbers {
+            lanes: AtomicU64::new(0),
+            readings: AtomicU64::new(0),
+        }
+    }
+
+    /// The calls of lanes, and those of sessions.
+    pub fn calls(&self) -> (u64, u64) {
+        (self.lanes.load(SeqCst), self.readings.load(SeqCst))
+    }
+}
+
+impl Gate for Numbers {
+    fn lane(&self, _round: u32, lane: u16) {
+        self.lanes.fetch_add(call_of(lane), SeqCst);
+    }
+
+    fn turn(&self, _round: u32) {}
+
+    fn reading(&self, _round: u32, session: u16) {
+        self.readings.fetch_add(call_of(session), SeqCst);
+    }
+}

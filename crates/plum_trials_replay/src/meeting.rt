@@ -3,13 +3,13 @@
 ghost use Rattle.plum_base.specs.Setup.{IsLaneCount, IsQueueBound};
 
 use crate::captures::{fifty_of_each, mark_between, three_segments, two_behind_a_mark};
-use crate::gates::{Meeting, Within};
+use crate::gates::{Meeting, Numbers, Within};
 use crate::lines::{FIFTY_OF_EACH, MARK_BETWEEN_TWO, TWO_BEHIND_A_MARK};
 use crate::replaying::{replay_once, stations_in_one_place};
 use plum_base::Bytes;
 use plum_host::{MemHost, To};
 use plum_replay::{Gate, OpenGate};
-use plum_trials_given::{host_of, setup_of};
+use plum_trials_given::{host_of, setup_of, sites_of};
 use std::alloc::Global;
 use std::process::Abort;
 use std::sync::Wait;
@@ -107,5 +107,19 @@ fn published_within_the_round(rt: HostRuntime) -> Result<(), Fail> {
         TWO_BEHIND_A_MARK.iter().any(|text| *text == output),
         "{output}"
     );
+    Ok(())
+}
+
+#[test]
+fn gate_is_told_lanes_and_sessions_by_number(rt: HostRuntime) -> Result<(), Fail> {
+    let alloc = rt.alloc();
+    let setup = setup_of(2, 16)?;
+    let sites = sites_of(alloc, 2, 0, &[("t1", "a", 0), ("t2", "b", 0)])?;
+    let mut host = host_of(alloc, three_segments(alloc, 2)?, STEP, &[], &[])?;
+    let gate = Numbers::new();
+    let ended = replay_once(&rt, alloc, &sites, &setup, &mut host, &gate)?;
+    assert_eq!(rt; ended.fault, None);
+    // Three packets of each lane, and three readings of each session.
+    assert_eq!(rt; gate.calls(), (3_000_003, 3_000_003));
     Ok(())
 }
